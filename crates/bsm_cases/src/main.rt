@@ -1,0 +1,143 @@
+// The cases of paper 01, each with what the item reader answers; the last one is also read whole by a run.
+use bsm_item::item::Item;
+use bsm_item::item::ItemRead;
+use bsm_item::item::body_of;
+use bsm_item::item::item_at;
+use bsm_item::item::name_of;
+use bsm_item::state::Ending;
+use bsm_item::state::State;
+use bsm_token::refusal::Refusal;
+use libc::STDOUT_FILENO;
+
+fn say(words: &[u8]) {
+    io::write_all(STDOUT_FILENO, words);
+}
+
+fn number(n: u64) {
+    say(b"\t");
+    io::print_decimal(STDOUT_FILENO, n);
+}
+
+fn refused(f: Refusal) {
+    say(b"refused");
+    number(f.number as u64);
+    number(f.place as u64);
+    number(f.need as u64);
+}
+
+// An item: its size and fields, and its name or the size of its body.
+fn found(trail: &[u8], place: usize, item: Item) {
+    match item {
+        Item::File {
+            size,
+            seconds,
+            microseconds,
+        } => {
+            say(b"file");
+            number(size as u64);
+            number(seconds as u64);
+            number(microseconds as u64);
+            say(b"\t");
+            say(name_of(trail, place, item));
+        }
+        Item::Record {
+            size,
+            header,
+            tokens,
+        } => {
+            say(b"record");
+            number(size as u64);
+            number(header.number as u64);
+            number(header.version as u64);
+            number(header.event as u64);
+            number(header.modifier as u64);
+            number(header.seconds);
+            number(header.nanoseconds);
+            number(tokens as u64);
+            number(body_of(trail, place, item).len() as u64);
+        }
+    }
+}
+
+// One line: the case's name, and the answer at a place of its trail.
+fn case(name: &[u8], trail: &[u8], place: usize) {
+    say(name);
+    say(b"\t");
+    match item_at(trail, place) {
+        ItemRead::Found(item) => found(trail, place, item),
+        ItemRead::End => say(b"end"),
+        ItemRead::Refused(f) => refused(f),
+    }
+    say(b"\n");
+}
+
+// One line: the case's name, and what a run from the fresh state hands back.
+fn whole(name: &[u8], trail: &[u8]) {
+    say(name);
+    say(b"\trun");
+    let r = State::fresh().run(trail);
+    let st = r.state;
+    number(st.place as u64);
+    number(st.records as u64);
+    number(st.files as u64);
+    say(b"\t");
+    let ending = r.ending;
+    match ending {
+        Ending::End => say(b"end"),
+        Ending::Refused(f) => refused(f),
+    }
+    say(b"\n");
+}
+
+fn main() {
+    case(b"1", b"", 0);
+    case(b"2", b"", 1);
+    case(b"3", b"\x14", 0);
+    case(b"4", b"\x13", 0);
+    case(b"5", b"\x14\0\0\0\x19", 0);
+    case(b"6", b"\x14\0\0\0\x1a", 0);
+    case(b"7", b"\x14\0\0\xff\xff", 0);
+    case(b"8", b"\x14\0\x01\0\0", 0);
+    case(
+        b"9",
+        b"\x14\0\0\0\x1a\0\x0b\0\x48\0\0\0\0\0\x01\0\0\0\x02\x13\xb1\x05\0\0\0\x1a",
+        0,
+    );
+    case(
+        b"10",
+        b"\x14\0\0\0\x20\0\x0b\0\x48\0\0\0\0\0\x01\0\0\0\x02\x27\0\0\0\0\0\x13\xb1\x05\0\0\0\x20",
+        0,
+    );
+    case(
+        b"11",
+        b"\x14\0\0\0\x1a\0\x0b\0\x48\0\0\0\0\0\x01\0\0\0\x02\x13\xb1\x05\0\0\0\x1b",
+        0,
+    );
+    case(
+        b"11 nanoseconds",
+        b"\x14\0\0\0\x1a\0\x0b\0\x48\0\0\0\0\0\x01\x3b\x9a\xca\0\x13\xb1\x05\0\0\0\x1b",
+        0,
+    );
+    case(b"12", b"\x11\0\0\0\x05\0\0\0\x07\0\x02\x61\0", 0);
+    case(b"13", b"\x11\0\0\0\x05\0\0\0\x07\0\x03\0\x61\0", 0);
+    case(
+        b"14",
+        b"\x14\0\0\0\x1c\0\x0b\0\x48\0\0\0\0\0\x01\0\0\0\x02\x2c\0\x13\xb1\x05\0\0\0\x1c",
+        0,
+    );
+    case(
+        b"15",
+        b"\x14\0\0\0\x1b\0\x0b\0\x48\0\0\0\0\0\x01\0\0\0\x02\0\x13\xb1\x05\0\0\0\x1b",
+        0,
+    );
+    case(
+        b"16",
+        b"\x14\0\0\0\x24\0\x0b\0\x48\0\0\0\0\0\x01\0\0\0\x02\x29\0\x07\x13\xb1\x05\0\0\0\x1a\x13\xb1\x05\0\0\0\x24",
+        0,
+    );
+    let last =
+        b"\x11\0\0\0\x05\0\0\0\x07\0\x02\x61\0\x14\0\0\0\x1a\0\x0b\0\x48\0\0\0\0\0\x01\0\0\0\x02\x13\xb1\x05\0\0\0\x1a";
+    case(b"17", last, 0);
+    case(b"17", last, 13);
+    whole(b"17", last);
+}
