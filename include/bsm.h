@@ -1,0 +1,168 @@
+/*
+ * Reading, writing and listing BSM audit trails: the C face of the proved library.
+ *
+ * Every function answers for any input: any bytes, any place, any state, any destination. A pointer must point to as many
+ * readable (dst, out: writable) bytes as the length behind it says; with the length 0 it may be any non-null pointer.
+ * Nothing is kept between calls. A refusal has the numbers of the build specification (paper 01):
+ *
+ *    1  short: `need` bytes must stand at the item's start     7  a token does not end at or before its body's end
+ *    2  place beyond the buffer, or totals above the place     8  bad text, or file name over 1,024 bytes
+ *    3  first byte is no item's                                9  microseconds or nanoseconds out of range
+ *    4  record length out of bounds                           10  destination too small
+ *    5  no trailer with this length                           11  value too large for its field
+ *    6  not a body token's number
+ *
+ * Where a `number` field is 0, nothing was refused. A refused write leaves the destination as it stood.
+ */
+#ifndef BSM_H
+#define BSM_H
+
+#include <stddef.h>
+#include <stdint.h>
+
+#ifdef __cplusplus
+extern "C" {
+#endif
+
+/* ---- reading items */
+
+enum { BSM_END = 0, BSM_FILE = 1, BSM_RECORD = 2, BSM_REFUSED = 3 };
+
+/* The answer at a place of a trail. Fields that the kind does not have are 0. */
+typedef struct {
+    uint64_t kind;      /* BSM_END, BSM_FILE, BSM_RECORD or BSM_REFUSED */
+    uint64_t size;      /* bytes of the item */
+    uint64_t header;    /* record: the header's token number, 0x14 or 0x74 */
+    uint64_t version;   /* record */
+    uint64_t event;     /* record */
+    uint64_t modifier;  /* record */
+    uint64_t seconds;   /* file and record */
+    uint64_t fraction;  /* file: microseconds; record: nanoseconds */
+    uint64_t tokens;    /* record: number of body tokens */
+    uint64_t number;    /* refused: number, place, need */
+    uint64_t place;
+    uint64_t need;
+} bsm_item;
+
+bsm_item bsm_item_at(const uint8_t *trail, size_t length, size_t place);
+
+/* A part of a buffer: start and length. */
+typedef struct {
+    uint64_t start;
+    uint64_t length;
+} bsm_part;
+
+/* The body of the record, or the name of the file token without its zero byte, at a place: where it stands in the trail;
+   0 and 0 where no such item stands there. */
+bsm_part bsm_body_at(const uint8_t *trail, size_t length, size_t place);
+bsm_part bsm_name_at(const uint8_t *trail, size_t length, size_t place);
+
+/* What a run from a state hands back: the state at which it stopped, and the refusal, or number 0 at the end. */
+typedef struct {
+    uint64_t place;
+    uint64_t records;
+    uint64_t files;
+    uint64_t number;
+    uint64_t at;        /* the place that the refusal reports */
+    uint64_t need;
+} bsm_outcome;
+
+bsm_outcome bsm_run(const uint8_t *trail, size_t length, size_t place, size_t records, size_t files);
+
+/* ---- reading body tokens; places are counted from the body's start */
+
+enum { BSM_NO_TOKEN = 0, BSM_TOKEN = 1, BSM_TOKEN_REFUSED = 3 };
+
+/* The answer at a place of a body. Fields that the kind or the token does not have are 0. */
+typedef struct {
+    uint64_t kind;      /* BSM_NO_TOKEN at the end, BSM_TOKEN, or BSM_TOKEN_REFUSED */
+    uint64_t token;     /* the token's number */
+    uint64_t start;     /* where its text, bytes, groups or strings start, and how many bytes they are; a text without its zero byte */
+    uint64_t length;
+    uint64_t size;      /* bytes of the whole token */
+    uint64_t count;     /* its length, number or count field */
+    uint64_t values[10]; /* its other fields, in the order of the layout */
+    uint64_t number;    /* refused: number, place, need */
+    uint64_t place;
+    uint64_t need;
+} bsm_token;
+
+bsm_token bsm_token_at(const uint8_t *body, size_t length, size_t place);
+
+/* The string of the path or text token at a place without its zero byte; length 0 for anything else (start 0 too). */
+bsm_part bsm_text_at(const uint8_t *body, size_t length, size_t place);
+
+/* The number of tokens of a body (in `written`), or the first refusal. */
+typedef struct {
+    uint64_t written;   /* bytes written, or tokens counted */
+    uint64_t number;    /* 0, or the refusal: number, place, need */
+    uint64_t place;
+    uint64_t need;
+} bsm_written;
+
+bsm_written bsm_walk_body(const uint8_t *body, size_t length);
+
+/* ---- writing: each writes at the start of dst, and answers how many bytes */
+
+bsm_written bsm_write_path(uint8_t *dst, size_t room, const uint8_t *text, size_t length);
+bsm_written bsm_write_text(uint8_t *dst, size_t room, const uint8_t *text, size_t length);
+bsm_written bsm_write_opaque(uint8_t *dst, size_t room, const uint8_t *bytes, size_t length);
+bsm_written bsm_write_subject32(uint8_t *dst, size_t room, uint32_t audit, uint32_t effective_user, uint32_t effective_group,
+    uint32_t real_user, uint32_t real_group, uint32_t process, uint32_t session, uint32_t port, uint32_t address);
+bsm_written bsm_write_process32(uint8_t *dst, size_t room, uint32_t audit, uint32_t effective_user, uint32_t effective_group,
+    uint32_t real_user, uint32_t real_group, uint32_t process, uint32_t session, uint32_t port, uint32_t address);
+bsm_written bsm_write_subject64(uint8_t *dst, size_t room, uint32_t audit, uint32_t effective_user, uint32_t effective_group,
+    uint32_t real_user, uint32_t real_group, uint32_t process, uint32_t session, uint64_t port, uint32_t address);
+bsm_written bsm_write_process64(uint8_t *dst, size_t room, uint32_t audit, uint32_t effective_user, uint32_t effective_group,
+    uint32_t real_user, uint32_t real_group, uint32_t process, uint32_t session, uint64_t port, uint32_t address);
+bsm_written bsm_write_return32(uint8_t *dst, size_t room, uint8_t error, uint32_t value);
+bsm_written bsm_write_return64(uint8_t *dst, size_t room, uint8_t error, uint64_t value);
+bsm_written bsm_write_in_addr(uint8_t *dst, size_t room, uint32_t address);
+bsm_written bsm_write_ip(uint8_t *dst, size_t room, uint8_t version, uint8_t service, uint16_t length, uint16_t id, uint16_t offset,
+    uint8_t ttl, uint8_t protocol, uint16_t checksum, uint32_t source, uint32_t destination);
+bsm_written bsm_write_iport(uint8_t *dst, size_t room, uint16_t port);
+bsm_written bsm_write_arg32(uint8_t *dst, size_t room, uint8_t argument, uint32_t value, const uint8_t *text, size_t length);
+bsm_written bsm_write_arg64(uint8_t *dst, size_t room, uint8_t argument, uint64_t value, const uint8_t *text, size_t length);
+bsm_written bsm_write_seq(uint8_t *dst, size_t room, uint32_t sequence);
+bsm_written bsm_write_ipc_perm(uint8_t *dst, size_t room, uint32_t user, uint32_t group, uint32_t creator_user,
+    uint32_t creator_group, uint32_t mode, uint32_t sequence, uint32_t key);
+bsm_written bsm_write_newgroups(uint8_t *dst, size_t room, const uint32_t *groups, size_t count);
+bsm_written bsm_write_exec_args(uint8_t *dst, size_t room, uint32_t count, const uint8_t *strings, size_t length);
+bsm_written bsm_write_exec_env(uint8_t *dst, size_t room, uint32_t count, const uint8_t *strings, size_t length);
+bsm_written bsm_write_exit(uint8_t *dst, size_t room, uint32_t status, uint32_t value);
+bsm_written bsm_write_file(uint8_t *dst, size_t room, uint32_t seconds, uint32_t microseconds, const uint8_t *name, size_t length);
+bsm_written bsm_write_record32(uint8_t *dst, size_t room, uint16_t version, uint16_t event, uint16_t modifier, uint64_t seconds,
+    uint64_t nanoseconds, const uint8_t *body, size_t length);
+bsm_written bsm_write_record64(uint8_t *dst, size_t room, uint16_t version, uint16_t event, uint16_t modifier, uint64_t seconds,
+    uint64_t nanoseconds, const uint8_t *body, size_t length);
+
+/* ---- listing */
+
+/* The first line. */
+bsm_written bsm_first_line(uint8_t *dst, size_t room);
+
+/* The line of the item at a place of a trail. Where no item stands there nothing is written: the refusal, or 0 bytes at the end. */
+bsm_written bsm_item_line(uint8_t *dst, size_t room, const uint8_t *trail, size_t length, size_t place);
+
+/* The last line of the run from a state. */
+bsm_written bsm_last_line(uint8_t *dst, size_t room, const uint8_t *trail, size_t length, size_t place, size_t records, size_t files);
+
+enum { BSM_LIST_FIRST = 0, BSM_LIST_AT = 1, BSM_LIST_DONE = 2 };
+
+/* As many whole lines of the listing as fit into out, from a stage on: BSM_LIST_FIRST, or BSM_LIST_AT with a state, as the call
+   before handed them back (any other stage counts as BSM_LIST_DONE: nothing is left). Joined, the outputs up to BSM_LIST_DONE are the listing. */
+typedef struct {
+    uint64_t stage;
+    uint64_t place;
+    uint64_t records;
+    uint64_t files;
+    uint64_t written;
+} bsm_listing;
+
+bsm_listing bsm_list(uint8_t *out, size_t room, const uint8_t *trail, size_t length, uint64_t stage, size_t place, size_t records, size_t files);
+
+#ifdef __cplusplus
+}
+#endif
+
+#endif
