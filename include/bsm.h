@@ -1,9 +1,10 @@
 /*
  * Reading, writing and listing BSM audit trails: the C face of the proved library.
  *
- * Every function answers for any input: any bytes, any place, any state, any destination. A pointer must point to as many
- * readable (dst, out: writable) bytes as the length behind it says; with the length 0 it may be any non-null pointer.
- * Nothing is kept between calls. A refusal has the numbers of the build specification (paper 01):
+ * Every function answers for any input: any bytes, any place, any state, any destination. A pointer must not be null, must be
+ * aligned for its type, and must point to as many readable (dst, out: writable) elements as the length behind it says; dst and out
+ * must not overlap another buffer of the same call. Nothing is kept between calls. A refusal has the numbers of the build
+ * specification (paper 01):
  *
  *    1  short: `need` bytes must stand at the item's start     7  a token does not end at or before its body's end
  *    2  place beyond the buffer, or totals above the place     8  bad text, or file name over 1,024 bytes
@@ -52,10 +53,21 @@ typedef struct {
     uint64_t length;
 } bsm_part;
 
-/* The body of the record, or the name of the file token without its zero byte, at a place: where it stands in the trail;
+/* Where the body of the record at a place, or the name of the file token there without its zero byte, stands in the trail;
    0 and 0 where no such item stands there. */
 bsm_part bsm_body_at(const uint8_t *trail, size_t length, size_t place);
 bsm_part bsm_name_at(const uint8_t *trail, size_t length, size_t place);
+
+/* One step from a reading state, which is a place and the totals of records and file tokens: the answer at the state (2 where the
+   totals add up to more than the place), and the state after it. Only an item moves the state. */
+typedef struct {
+    bsm_item item;
+    uint64_t place;
+    uint64_t records;
+    uint64_t files;
+} bsm_step;
+
+bsm_step bsm_next(const uint8_t *trail, size_t length, size_t place, size_t records, size_t files);
 
 /* What a run from a state hands back: the state at which it stopped, and the refusal, or number 0 at the end. */
 typedef struct {
@@ -77,11 +89,11 @@ enum { BSM_NO_TOKEN = 0, BSM_TOKEN = 1, BSM_TOKEN_REFUSED = 3 };
 typedef struct {
     uint64_t kind;      /* BSM_NO_TOKEN at the end, BSM_TOKEN, or BSM_TOKEN_REFUSED */
     uint64_t token;     /* the token's number */
-    uint64_t start;     /* where its text, bytes, groups or strings start, and how many bytes they are; a text without its zero byte */
-    uint64_t length;
+    uint64_t start;     /* where its text, bytes, groups or strings start */
+    uint64_t length;    /* and how many bytes they are, a text without its zero byte */
     uint64_t size;      /* bytes of the whole token */
     uint64_t count;     /* its length, number or count field */
-    uint64_t values[10]; /* its other fields, in the order of the layout */
+    uint64_t values[10]; /* its other fields, in the order of the layout, then zeros */
     uint64_t number;    /* refused: number, place, need */
     uint64_t place;
     uint64_t need;
@@ -89,20 +101,22 @@ typedef struct {
 
 bsm_token bsm_token_at(const uint8_t *body, size_t length, size_t place);
 
-/* The string of the path or text token at a place without its zero byte; length 0 for anything else (start 0 too). */
+/* Where the string of the path or text token at a place stands in the body, without its zero byte; 0 and 0 for anything else. */
 bsm_part bsm_text_at(const uint8_t *body, size_t length, size_t place);
 
-/* The number of tokens of a body (in `written`), or the first refusal. */
+/* What a writer answers, and the walk of a body. */
 typedef struct {
-    uint64_t written;   /* bytes written, or tokens counted */
+    uint64_t written;   /* bytes written, or tokens counted; 0 on a refusal */
     uint64_t number;    /* 0, or the refusal: number, place, need */
     uint64_t place;
     uint64_t need;
 } bsm_written;
 
+/* How many tokens a body has, or the first refusal. */
 bsm_written bsm_walk_body(const uint8_t *body, size_t length);
 
-/* ---- writing: each writes at the start of dst, and answers how many bytes */
+/* ---- writing: each writes at the start of dst, and answers how many bytes. Texts, names and paths are given without their zero
+   byte, strings of exec tokens each with its own. */
 
 bsm_written bsm_write_path(uint8_t *dst, size_t room, const uint8_t *text, size_t length);
 bsm_written bsm_write_text(uint8_t *dst, size_t room, const uint8_t *text, size_t length);
@@ -150,16 +164,18 @@ bsm_written bsm_last_line(uint8_t *dst, size_t room, const uint8_t *trail, size_
 enum { BSM_LIST_FIRST = 0, BSM_LIST_AT = 1, BSM_LIST_DONE = 2 };
 
 /* As many whole lines of the listing as fit into out, from a stage on: BSM_LIST_FIRST, or BSM_LIST_AT with a state, as the call
-   before handed them back (any other stage counts as BSM_LIST_DONE: nothing is left). Joined, the outputs up to BSM_LIST_DONE are the listing. */
+   before handed them back (any other stage counts as BSM_LIST_DONE: nothing is left). Joined, the outputs up to BSM_LIST_DONE are
+   the listing. */
 typedef struct {
-    uint64_t stage;
-    uint64_t place;
+    uint64_t stage;     /* which line comes next */
+    uint64_t place;     /* BSM_LIST_AT: its state; otherwise 0 */
     uint64_t records;
     uint64_t files;
-    uint64_t written;
+    uint64_t written;   /* bytes of lines at the start of out */
 } bsm_listing;
 
-bsm_listing bsm_list(uint8_t *out, size_t room, const uint8_t *trail, size_t length, uint64_t stage, size_t place, size_t records, size_t files);
+bsm_listing bsm_list(uint8_t *out, size_t room, const uint8_t *trail, size_t length, uint64_t stage, size_t place, size_t records,
+    size_t files);
 
 #ifdef __cplusplus
 }

@@ -1,0 +1,7 @@
+pub mod Refusals
+pub mod Answers
+pub mod ItemNumbers
+pub mod Places
+pub mod States
+pub mod TokenNumbers
+pub mod Listings

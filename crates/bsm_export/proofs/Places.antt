@@ -1,0 +1,158 @@
+-- Where bodies, names and strings stand. Assumes nothing.
+use mathlib.Core.Path.{_≡_, refl, sym, ap, ap₂, _∙_}
+use mathlib.Core.Bool.{Bool, true, false}
+use mathlib.Core.List.{List, []}
+use Prim.Native.Nat.{ℕ, _+_, _-_, _≤_}
+use native.Mathlib.Omega.{arith}
+use lib.ListN.{length, take, drop, length-drop}
+use lib.Seq.{length-take-le}
+use Rattle.bsm_token.specs.Number.{sum}
+use Rattle.bsm_token.specs.Layout.{rows, rowIn, rowOf, before, behind, layout, fixed}
+use Rattle.bsm_token.specs.Token.{TokenAnswer, tokenAt, hasString, stringOf}
+use Rattle.bsm_token.specs.Tokens.{numberOf, tokenMeant}
+use Rattle.bsm_token.specs.declared.refusal.Refusal.{Refusal}
+use Rattle.bsm_token.specs.declared.kind.Token.{Token as Kind}
+use Rattle.bsm_token.specs.declared.token.TokenRead.{TokenRead}
+use Rattle.bsm_token.specs.declared.token.TokenRead.the-variants.{Found as FoundToken, End as TokenEnd, Refused as TokenRefused}
+use Rattle.bsm_token.proofs.Answers.{string-inside}
+use Rattle.bsm_item.specs.Item.{partOf, partStart, Answer, item, end, short, refusal, itemAt}
+use Rattle.bsm_item.specs.Meaning.{headMeant, headSize, itemMeant, refusalMeant, readMeant, sizeFound}
+use Rattle.bsm_item.specs.declared.item.Header.{Header}
+use Rattle.bsm_item.specs.declared.item.Item.{Item as Found}
+use Rattle.bsm_item.specs.declared.item.Item.the-variants.{File, Record}
+use Rattle.bsm_item.specs.declared.item.ItemRead.{ItemRead}
+use Rattle.bsm_item.specs.declared.item.ItemRead.the-variants.{Found as FoundItem, End, Refused}
+use Rattle.bsm_item.proofs.Longer.{item-long}
+use Rattle.bsm_export.specs.Items.{isAt, Stands, bodyOf, bodyStart, nameOf, nameStart}
+use Rattle.bsm_export.specs.Tokens.{stringStart}
+use Rattle.bsm_export.specs.declared.item.BsmPart.{BsmPart}
+use Rattle.bsm_export.proofs.Refusals.{by-numbers}
+
+abbrev part : ℕ → ℕ → BsmPart
+part a n = record { start = a; length = n }
+
+-- n bytes that are there
+stands : (s : List ℕ) (a n : ℕ) {q : BsmPart} → n ≤ length s - a → q ≡ part a n → Stands s (take n (drop a s)) a q
+stands s a n h e =
+    rw e (record { start = refl; long = sym (length-take-le n (drop a s) (omega (arith, length-drop a s))); bytes = refl })
+
+nowhere : (s : List ℕ) {q : BsmPart} → q ≡ part 0 0 → Stands s [] 0 q
+nowhere s e = rw e (record { start = refl; long = refl; bytes = refl })
+
+-- ---- the part of an item
+
+size-within : (s : List ℕ) (p : ℕ) (i : Found) → isAt s p (itemMeant s p i) → p + sizeFound i ≤ length s
+size-within s p (File n x y) e = item-long s p (itemMeant s p (File n x y)) e .1
+size-within s p (Record n d c) e = item-long s p (itemMeant s p (Record n d c)) e .1
+
+-- its place is in the trail
+pub place-within : (s : List ℕ) (p : ℕ) (i : Found) → isAt s p (itemMeant s p i) → p ≤ length s
+place-within s p i e = omega (arith, size-within s p i e)
+
+pub file-part : (s : List ℕ) (p n x y : ℕ) {i : Found} {a b : ℕ} {q : BsmPart} → isAt s p (itemMeant s p i) → i ≡ File n x y → a ≡ n - 11 → b ≡ a - 1 → q ≡ part (p + 11) b
+    → Stands s (partOf (itemMeant s p i)) (p + partStart (itemMeant s p i)) q
+unfolding rows rowIn rowOf before behind layout fixed sum
+file-part s p n x y {i} {a} {b} {q} e f ha hb g =
+    let k : b ≡ n - 11 - 1 = omega arith in
+    let l : p + n ≤ length s = size-within s p (File n x y) (rw f at e) in
+    rw f (stands s (p + 11) (n - 11 - 1) (omega arith) (g ∙ ap (part (p + 11)) k))
+
+pub record-part : (s : List ℕ) (p n : ℕ) (d : Header) (c : ℕ) {i : Found} {h a b : ℕ} {q : BsmPart} → isAt s p (itemMeant s p i) → i ≡ Record n d c → h ≡ headSize d → a ≡ n - 7
+    → b ≡ a - h → q ≡ part (p + h) b → Stands s (partOf (itemMeant s p i)) (p + partStart (itemMeant s p i)) q
+unfolding headMeant
+record-part s p n d c {i} {h} {a} {b} {q} e f z ha hb g =
+    let k : b ≡ n - 7 - headSize d = omega arith in
+    let l : p + n ≤ length s = size-within s p (Record n d c) (rw f at e) in
+    rw f (stands s (p + headSize d) (n - 7 - headSize d) (omega arith) (g ∙ ap₂ (λ x y. part (p + x) y) z k))
+
+-- ---- at a place
+
+module _ (s : List ℕ) (p : ℕ) (r : ItemRead) (e : readMeant s p r ≡ itemAt s p) where
+  pub found-at : (i : Found) → r ≡ FoundItem i → isAt s p (itemMeant s p i)
+  found-at i f = sym e ∙ ap (readMeant s p) f
+
+  -- a part, by its bytes and its start, for each answer
+  module _ (bytes : Answer → List ℕ) (start : Answer → ℕ) {q : BsmPart} where
+    stands-at : {a : Answer} → itemAt s p ≡ a → Stands s (bytes a) (start a) q → Stands s (bytes (itemAt s p)) (start (itemAt s p)) q
+    stands-at f h = rw f h
+
+    none-at : (a : Answer) → itemAt s p ≡ a → [] ≡ bytes a → 0 ≡ start a → q ≡ part 0 0 → Stands s (bytes (itemAt s p)) (start (itemAt s p)) q
+    none-at a f b c h = stands-at f (rw (← b, ← c) (nowhere s h))
+
+    -- none at the end, nor where something is refused
+    end-at : r ≡ End → [] ≡ bytes end → 0 ≡ start end → q ≡ part 0 0 → Stands s (bytes (itemAt s p)) (start (itemAt s p)) q
+    end-at f b c h = none-at end (sym e ∙ ap (readMeant s p) f) b c h
+
+    refused-at : (f : Refusal) → r ≡ Refused f → ((k n : ℕ) → ([] ≡ bytes (short k n)) × (0 ≡ start (short k n))) → ((j k n : ℕ) → ([] ≡ bytes (refusal j k n)) × (0 ≡ start (refusal j k n))) → q ≡ part 0 0
+        → Stands s (bytes (itemAt s p)) (start (itemAt s p)) q
+    refused-at f g x y h =
+        none-at (refusalMeant f) (sym e ∙ ap (readMeant s p) g) (by-numbers bytes (λ j k n. []) (λ k n. x k n .0) (λ j k n. y j k n .0) f)
+        (by-numbers start (λ j k n. 0) (λ k n. x k n .1) (λ j k n. y j k n .1) f) h
+
+  module _ {q : BsmPart} where
+    pub body-of : (i : Found) (n : ℕ) (d : Header) (c : ℕ) → r ≡ FoundItem i → i ≡ Record n d c → Stands s (partOf (itemMeant s p i)) (p + partStart (itemMeant s p i)) q
+        → Stands s (bodyOf (itemAt s p)) (bodyStart p (itemAt s p)) q
+    unfolding bodyOf bodyStart
+    body-of i n d c f g h = stands-at bodyOf (bodyStart p) (found-at i f ∙ ap (λ j. item (itemMeant s p j)) g) (rw g at h)
+
+    pub body-none : (i : Found) (n x y : ℕ) → r ≡ FoundItem i → i ≡ File n x y → q ≡ part 0 0 → Stands s (bodyOf (itemAt s p)) (bodyStart p (itemAt s p)) q
+    unfolding bodyOf bodyStart
+    body-none i n x y f g h = stands-at bodyOf (bodyStart p) (found-at i f ∙ ap (λ j. item (itemMeant s p j)) g) (nowhere s h)
+
+    pub body-end : r ≡ End → q ≡ part 0 0 → Stands s (bodyOf (itemAt s p)) (bodyStart p (itemAt s p)) q
+    unfolding bodyOf bodyStart
+    body-end f h = end-at bodyOf (bodyStart p) f refl refl h
+
+    pub body-refused : (f : Refusal) → r ≡ Refused f → q ≡ part 0 0 → Stands s (bodyOf (itemAt s p)) (bodyStart p (itemAt s p)) q
+    unfolding bodyOf bodyStart
+    body-refused f g h = refused-at bodyOf (bodyStart p) f g (λ k n. (refl, refl)) (λ j k n. (refl, refl)) h
+
+    pub name-of : (i : Found) (n x y : ℕ) → r ≡ FoundItem i → i ≡ File n x y → Stands s (partOf (itemMeant s p i)) (p + partStart (itemMeant s p i)) q
+        → Stands s (nameOf (itemAt s p)) (nameStart p (itemAt s p)) q
+    unfolding nameOf nameStart
+    name-of i n x y f g h = stands-at nameOf (nameStart p) (found-at i f ∙ ap (λ j. item (itemMeant s p j)) g) (rw g at h)
+
+    pub name-none : (i : Found) (n : ℕ) (d : Header) (c : ℕ) → r ≡ FoundItem i → i ≡ Record n d c → q ≡ part 0 0 → Stands s (nameOf (itemAt s p)) (nameStart p (itemAt s p)) q
+    unfolding nameOf nameStart
+    name-none i n d c f g h = stands-at nameOf (nameStart p) (found-at i f ∙ ap (λ j. item (itemMeant s p j)) g) (nowhere s h)
+
+    pub name-end : r ≡ End → q ≡ part 0 0 → Stands s (nameOf (itemAt s p)) (nameStart p (itemAt s p)) q
+    unfolding nameOf nameStart
+    name-end f h = end-at nameOf (nameStart p) f refl refl h
+
+    pub name-refused : (f : Refusal) → r ≡ Refused f → q ≡ part 0 0 → Stands s (nameOf (itemAt s p)) (nameStart p (itemAt s p)) q
+    unfolding nameOf nameStart
+    name-refused f g h = refused-at nameOf (nameStart p) f g (λ k n. (refl, refl)) (λ j k n. (refl, refl)) h
+
+    pub ruleset body-says = (body-of, body-none, body-end, body-refused)
+
+    pub ruleset name-says = (name-of, name-none, name-end, name-refused)
+
+-- ---- the string of a token
+
+module _ (s : List ℕ) (p : ℕ) (r : TokenRead) (e : tokenMeant s r ≡ tokenAt s p) where
+  answer : {x : TokenRead} → r ≡ x → tokenAt s p ≡ tokenMeant s x
+  answer f = sym e ∙ ap (tokenMeant s) f
+
+  string-stands : {a : TokenAnswer} {q : BsmPart} → tokenAt s p ≡ a → Stands s (stringOf a) (stringStart a) q → Stands s (stringOf (tokenAt s p)) (stringStart (tokenAt s p)) q
+  string-stands f h = rw f h
+
+  module _ (t : Kind) (a l n : ℕ) (f : r ≡ FoundToken t a l n) (x : ℕ) (d : x ≡ numberOf t) (b : Bool) (g : b ≡ hasString x) where
+    has : {v : Bool} → b ≡ v → hasString (numberOf t) ≡ v
+    has h = ap hasString (sym d) ∙ sym g ∙ h
+
+    pub string-at : {q : BsmPart} → b ≡ true → q ≡ part a l → Stands s (stringOf (tokenAt s p)) (stringStart (tokenAt s p)) q
+    unfolding stringOf stringStart
+    string-at h z = string-stands (answer f) (rw (has h) (stands s a l (omega (arith, string-inside s p r e t a l n f)) z))
+
+    pub string-none : {q : BsmPart} → b ≡ false → q ≡ part 0 0 → Stands s (stringOf (tokenAt s p)) (stringStart (tokenAt s p)) q
+    unfolding stringOf stringStart
+    string-none h z = string-stands (answer f) (rw (has h) (nowhere s z))
+
+  pub string-end : {q : BsmPart} → r ≡ TokenEnd → q ≡ part 0 0 → Stands s (stringOf (tokenAt s p)) (stringStart (tokenAt s p)) q
+  unfolding stringOf stringStart
+  string-end f z = string-stands (answer f) (nowhere s z)
+
+  pub string-refused : {q : BsmPart} (f : Refusal) → r ≡ TokenRefused f → q ≡ part 0 0 → Stands s (stringOf (tokenAt s p)) (stringStart (tokenAt s p)) q
+  unfolding stringOf stringStart
+  string-refused f g z = string-stands (answer g) (nowhere s z)

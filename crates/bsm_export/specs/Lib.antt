@@ -1,0 +1,4 @@
+pub mod Items
+pub mod Tokens
+pub mod Written
+pub mod Lines

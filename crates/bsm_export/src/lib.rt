@@ -1,0 +1,12 @@
+// The library for C and Rust: slices, numbers and structs of numbers only (include/bsm.h).
+pub mod answer;
+pub mod item;
+pub mod lines;
+pub mod party;
+pub mod plain;
+pub mod records;
+pub mod state;
+pub mod tail;
+pub mod text;
+pub mod token;
+mod values;

@@ -1,0 +1,72 @@
+// Writers of file tokens and of records.
+ghost use mathlib.Core.List.{[], _∷_};
+ghost use Rattle.bsm_write.specs.Items.{filePlan, recordPlan};
+ghost use Rattle.bsm_export.specs.Written.{Exported};
+use crate::answer::BsmWritten;
+use crate::answer::flat;
+use bsm_write::file::write_file;
+use bsm_write::record::HeaderFields;
+use bsm_write::record::write_record32;
+use bsm_write::record::write_record64;
+
+#[no_mangle]
+pub extern "C" fn bsm_write_file(
+    dst: &mut [u8],
+    seconds: u32,
+    microseconds: u32,
+    name: &[u8],
+) -> BsmWritten
+    ensures { λ r. ⌜ Exported (filePlan (seconds ∷ microseconds ∷ []) (now (name .entry))) (now (dst .entry)) (now (dst .exit)) r ⌝ }
+{
+    flat(write_file(dst, seconds, microseconds, name))
+}
+
+#[no_mangle]
+pub extern "C" fn bsm_write_record32(
+    dst: &mut [u8],
+    version: u16,
+    event: u16,
+    modifier: u16,
+    seconds: u64,
+    nanoseconds: u64,
+    body: &[u8],
+) -> BsmWritten
+    ensures { λ r. ⌜ Exported (recordPlan (record { number = 0x14; values = version ∷ event ∷ modifier ∷ seconds ∷ nanoseconds ∷ [] }) (now (body .entry))) (now (dst .entry)) (now (dst .exit)) r ⌝ }
+{
+    flat(write_record32(
+        dst,
+        HeaderFields {
+            version: version,
+            event: event,
+            modifier: modifier,
+            seconds: seconds,
+            nanoseconds: nanoseconds,
+        },
+        body,
+    ))
+}
+
+#[no_mangle]
+pub extern "C" fn bsm_write_record64(
+    dst: &mut [u8],
+    version: u16,
+    event: u16,
+    modifier: u16,
+    seconds: u64,
+    nanoseconds: u64,
+    body: &[u8],
+) -> BsmWritten
+    ensures { λ r. ⌜ Exported (recordPlan (record { number = 0x74; values = version ∷ event ∷ modifier ∷ seconds ∷ nanoseconds ∷ [] }) (now (body .entry))) (now (dst .entry)) (now (dst .exit)) r ⌝ }
+{
+    flat(write_record64(
+        dst,
+        HeaderFields {
+            version: version,
+            event: event,
+            modifier: modifier,
+            seconds: seconds,
+            nanoseconds: nanoseconds,
+        },
+        body,
+    ))
+}

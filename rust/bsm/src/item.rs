@@ -1,0 +1,192 @@
+//! Reading one item.
+
+use crate::refusal::Refusal;
+use crate::sys;
+
+/// Which of the two headers a record has.
+#[derive(Clone, Copy, Debug, PartialEq, Eq, Hash)]
+pub enum HeaderKind {
+    /// 14, times of 4 bytes.
+    Header32,
+    /// 74, times of 8 bytes.
+    Header64,
+}
+
+impl HeaderKind {
+    /// The header's token number.
+    #[inline]
+    pub const fn number(self) -> u8 {
+        match self {
+            HeaderKind::Header32 => 0x14,
+            HeaderKind::Header64 => 0x74,
+        }
+    }
+
+    /// The header's size in bytes.
+    #[inline]
+    const fn size(self) -> usize {
+        match self {
+            HeaderKind::Header32 => 19,
+            HeaderKind::Header64 => 27,
+        }
+    }
+}
+
+/// A record's header, as read and as given to
+/// [`write_record`](crate::write_record).
+#[derive(Clone, Copy, Debug, PartialEq, Eq, Hash)]
+pub struct Header {
+    /// Which header.
+    pub kind: HeaderKind,
+    /// Version of the record layout.
+    pub version: u16,
+    /// Event type.
+    pub event: u16,
+    /// Event modifier.
+    pub modifier: u16,
+    /// Seconds of the time stamp.
+    pub seconds: u64,
+    /// Nanoseconds of the time stamp.
+    pub nanoseconds: u64,
+}
+
+/// An accepted item, borrowed from its trail.
+#[derive(Clone, Copy, Debug, PartialEq, Eq)]
+pub enum Item<'a> {
+    /// A file token.
+    File {
+        /// Bytes of the token.
+        size: usize,
+        /// Seconds of the time stamp.
+        seconds: u32,
+        /// Microseconds of the time stamp.
+        microseconds: u32,
+        /// The file name without its zero byte.
+        name: &'a [u8],
+    },
+    /// A record.
+    Record {
+        /// Bytes of the record.
+        size: usize,
+        /// The header's fields.
+        header: Header,
+        /// What stands between header and trailer; see
+        /// [`tokens`](crate::tokens).
+        body: &'a [u8],
+        /// How many tokens the body has.
+        tokens: usize,
+    },
+}
+
+impl Item<'_> {
+    /// Bytes of the item.
+    #[inline]
+    pub const fn size(&self) -> usize {
+        match *self {
+            Item::File { size, .. } | Item::Record { size, .. } => size,
+        }
+    }
+}
+
+/// The item at a place of a trail, or nothing where the trail ends there.
+///
+/// ```
+/// use bsm::{item_at, Item, Reason};
+///
+/// let trail = b"\x11\0\0\0\x05\0\0\0\x07\0\x02a\0";
+/// assert!(matches!(item_at(trail, 0), Ok(Some(Item::File { name: b"a", .. }))));
+/// assert_eq!(item_at(trail, trail.len()), Ok(None));
+/// assert_eq!(item_at(trail, 1).unwrap_err().reason, Reason::NotAnItem);
+/// ```
+#[inline]
+pub fn item_at(trail: &[u8], place: usize) -> Result<Option<Item<'_>>, Refusal> {
+    // SAFETY: the pointer and the length are those of a lent slice, which
+    // stays as it is during the call.
+    let answer = unsafe { sys::bsm_item_at(trail.as_ptr(), trail.len(), place) };
+    found(trail, place, &answer)
+}
+
+/// The body of the record at a place, if a record stands there.
+///
+/// [`Item::Record`] holds the same body; this is for callers who want
+/// nothing else.
+#[inline]
+pub fn body_at(trail: &[u8], place: usize) -> Option<&[u8]> {
+    // SAFETY: as in `item_at`.
+    let answer = unsafe { sys::bsm_body_at(trail.as_ptr(), trail.len(), place) };
+    told_part(trail, answer)
+}
+
+/// The name of the file token at a place without its zero byte, if a file
+/// token stands there.
+#[inline]
+pub fn name_at(trail: &[u8], place: usize) -> Option<&[u8]> {
+    // SAFETY: as in `item_at`.
+    let answer = unsafe { sys::bsm_name_at(trail.as_ptr(), trail.len(), place) };
+    told_part(trail, answer)
+}
+
+/// The answer at `place` with its parts of the trail.
+#[inline]
+pub(crate) fn found<'a>(
+    trail: &'a [u8],
+    place: usize,
+    answer: &sys::bsm_item,
+) -> Result<Option<Item<'a>>, Refusal> {
+    let size = answer.size as usize;
+    match answer.kind {
+        sys::BSM_END => Ok(None),
+        sys::BSM_FILE => Ok(Some(Item::File {
+            size,
+            seconds: answer.seconds as u32,
+            microseconds: answer.fraction as u32,
+            name: inner(trail, place, size, 11, 1),
+        })),
+        sys::BSM_RECORD => {
+            let kind = match answer.header {
+                0x14 => HeaderKind::Header32,
+                _ => HeaderKind::Header64,
+            };
+            Ok(Some(Item::Record {
+                size,
+                header: Header {
+                    kind,
+                    version: answer.version as u16,
+                    event: answer.event as u16,
+                    modifier: answer.modifier as u16,
+                    seconds: answer.seconds,
+                    nanoseconds: answer.fraction,
+                },
+                body: inner(trail, place, size, kind.size(), 7),
+                tokens: answer.tokens as usize,
+            }))
+        }
+        _ => Err(Refusal::of(answer.number, answer.place, answer.need)),
+    }
+}
+
+/// What an item of `size` bytes holds between its first `before` and its
+/// last `behind` bytes. An item stands in its trail, so the part is there.
+#[inline]
+fn inner(trail: &[u8], place: usize, size: usize, before: usize, behind: usize) -> &[u8] {
+    part(trail, place, size)
+        .get(before..size.saturating_sub(behind))
+        .unwrap_or_default()
+}
+
+/// The part of `length` bytes from `start` on, which the library names only
+/// where it is there.
+#[inline]
+pub(crate) fn part(bytes: &[u8], start: usize, length: usize) -> &[u8] {
+    bytes
+        .get(start..)
+        .and_then(|rest| rest.get(..length))
+        .unwrap_or_default()
+}
+
+/// A part that the library told; the one at 0 with length 0 is none.
+#[inline]
+pub(crate) fn told_part(bytes: &[u8], told: sys::bsm_part) -> Option<&[u8]> {
+    (told != sys::bsm_part::default())
+        .then(|| part(bytes, told.start as usize, told.length as usize))
+}

@@ -1,0 +1,131 @@
+//! Refusals and their numbers (paper 01, 'Refusal numbers').
+
+use crate::sys;
+use core::error::Error;
+use core::fmt;
+
+/// Why something was refused. The numbers are those of paper 01.
+#[derive(Clone, Copy, Debug, PartialEq, Eq, Hash)]
+#[repr(u8)]
+pub enum Reason {
+    /// 1: the item is not all there yet; [`Refusal::need`] bytes must stand
+    /// from its start on.
+    Short = 1,
+    /// 2: the place lies behind the buffer's end, or the totals of a state
+    /// add up to more than its place.
+    Place = 2,
+    /// 3: no item begins with this byte.
+    NotAnItem = 3,
+    /// 4: a record's length is out of bounds.
+    RecordLength = 4,
+    /// 5: no trailer with the record's length stands at its end.
+    Trailer = 5,
+    /// 6: no body token begins with this byte.
+    NotABodyToken = 6,
+    /// 7: a token does not end within its body.
+    PastEnd = 7,
+    /// 8: a bad text, or a file name that is too long.
+    BadText = 8,
+    /// 9: microseconds over 999,999 or nanoseconds over 999,999,999.
+    TimeRange = 9,
+    /// 10: the destination is smaller than what is to be written.
+    NoRoom = 10,
+    /// 11: a value too large for its field.
+    TooLarge = 11,
+}
+
+impl Reason {
+    /// The refusal's number, 1 to 11.
+    #[inline]
+    pub const fn number(self) -> u8 {
+        self as u8
+    }
+
+    /// The reason for a number that the library gave.
+    pub(crate) const fn of(number: u64) -> Self {
+        match number {
+            1 => Reason::Short,
+            2 => Reason::Place,
+            3 => Reason::NotAnItem,
+            4 => Reason::RecordLength,
+            5 => Reason::Trailer,
+            6 => Reason::NotABodyToken,
+            7 => Reason::PastEnd,
+            8 => Reason::BadText,
+            9 => Reason::TimeRange,
+            10 => Reason::NoRoom,
+            // 11; the library has no other number.
+            _ => Reason::TooLarge,
+        }
+    }
+}
+
+impl fmt::Display for Reason {
+    fn fmt(&self, f: &mut fmt::Formatter<'_>) -> fmt::Result {
+        f.write_str(match self {
+            Reason::Short => "short",
+            Reason::Place => "place or totals out of range",
+            Reason::NotAnItem => "not an item",
+            Reason::RecordLength => "record length out of bounds",
+            Reason::Trailer => "no trailer with the record's length",
+            Reason::NotABodyToken => "not a body token",
+            Reason::PastEnd => "token runs past the end of its body",
+            Reason::BadText => "bad text",
+            Reason::TimeRange => "time out of range",
+            Reason::NoRoom => "destination too small",
+            Reason::TooLarge => "value too large for its field",
+        })
+    }
+}
+
+/// An answer that is no result.
+#[derive(Clone, Copy, Debug, PartialEq, Eq, Hash)]
+pub struct Refusal {
+    /// Why.
+    pub reason: Reason,
+    /// The place it speaks of: the item's or the token's start, or the
+    /// asked place.
+    pub place: usize,
+    /// For [`Reason::Short`] how many bytes must stand from the item's start
+    /// on before the answer changes; otherwise 0.
+    pub need: usize,
+}
+
+impl Refusal {
+    /// A refusal as the library told it.
+    pub(crate) const fn of(number: u64, place: u64, need: u64) -> Self {
+        Refusal {
+            reason: Reason::of(number),
+            place: place as usize,
+            need: need as usize,
+        }
+    }
+}
+
+impl fmt::Display for Refusal {
+    fn fmt(&self, f: &mut fmt::Formatter<'_>) -> fmt::Result {
+        write!(
+            f,
+            "refusal {} at {}: {}",
+            self.reason.number(),
+            self.place,
+            self.reason
+        )?;
+        if self.need > 0 {
+            write!(f, ", needs {} bytes", self.need)?;
+        }
+        Ok(())
+    }
+}
+
+impl Error for Refusal {}
+
+/// The answer of a writer or of a walk.
+#[inline]
+pub(crate) fn written(answer: sys::bsm_written) -> Result<usize, Refusal> {
+    if answer.number == 0 {
+        Ok(answer.written as usize)
+    } else {
+        Err(Refusal::of(answer.number, answer.place, answer.need))
+    }
+}

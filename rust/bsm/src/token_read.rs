@@ -1,0 +1,219 @@
+//! Reading body tokens. Places are counted from the body's start.
+
+use crate::item::{part, told_part};
+use crate::parts::{Groups, Strings};
+use crate::refusal::{written, Refusal};
+use crate::sys;
+use crate::token::{IpHeader, IpcPerm, Party, Token};
+use core::iter::FusedIterator;
+
+/// A token and its size.
+#[derive(Clone, Copy, Debug, PartialEq, Eq)]
+pub struct TokenAt<'a> {
+    /// The token.
+    pub token: Token<'a>,
+    /// Bytes of the whole token.
+    pub size: usize,
+}
+
+/// The token at a place of a body, or nothing where the body ends there.
+///
+/// ```
+/// use bsm::{token_at, Token};
+///
+/// let body = b"\x27\0\0\0\0\x05\x23\0\x05/etc\0";
+/// let first = token_at(body, 0)?.unwrap();
+/// assert_eq!(first.token, Token::Return32 { error: 0, value: 5 });
+/// let second = token_at(body, first.size)?.unwrap();
+/// assert_eq!(second.token, Token::Path { text: b"/etc" });
+/// assert_eq!(token_at(body, body.len()), Ok(None));
+/// # Ok::<(), bsm::Refusal>(())
+/// ```
+#[inline]
+pub fn token_at(body: &[u8], place: usize) -> Result<Option<TokenAt<'_>>, Refusal> {
+    // SAFETY: the pointer and the length are those of a lent slice.
+    let told = unsafe { sys::bsm_token_at(body.as_ptr(), body.len(), place) };
+    match told.kind {
+        sys::BSM_NO_TOKEN => Ok(None),
+        sys::BSM_TOKEN => Ok(Some(TokenAt {
+            token: token_of(body, &told),
+            size: told.size as usize,
+        })),
+        _ => Err(Refusal::of(told.number, told.place, told.need)),
+    }
+}
+
+/// The string of the path or text token at a place without its zero byte;
+/// nothing where another token, no token or a refused one stands.
+#[inline]
+pub fn text_at(body: &[u8], place: usize) -> Option<&[u8]> {
+    // SAFETY: the pointer and the length are those of a lent slice.
+    let told = unsafe { sys::bsm_text_at(body.as_ptr(), body.len(), place) };
+    told_part(body, told)
+}
+
+/// How many tokens a body has, or the first refusal in it.
+#[inline]
+pub fn walk_body(body: &[u8]) -> Result<usize, Refusal> {
+    // SAFETY: the pointer and the length are those of a lent slice.
+    written(unsafe { sys::bsm_walk_body(body.as_ptr(), body.len()) })
+}
+
+/// The tokens of a body. The first refusal comes as an error and is the
+/// last; the body of an accepted record has none.
+///
+/// ```
+/// use bsm::{tokens, Token};
+///
+/// let body = b"\x2c\0\x16\x2f\0\0\0\x07";
+/// let read: Result<Vec<_>, _> = tokens(body).collect();
+/// assert_eq!(read?, [Token::Iport { port: 22 }, Token::Seq { sequence: 7 }]);
+/// # Ok::<(), bsm::Refusal>(())
+/// ```
+#[inline]
+pub const fn tokens(body: &[u8]) -> Tokens<'_> {
+    Tokens {
+        body,
+        place: 0,
+        refused: false,
+    }
+}
+
+/// The iterator that [`tokens`] gives.
+#[derive(Clone, Debug)]
+pub struct Tokens<'a> {
+    body: &'a [u8],
+    place: usize,
+    refused: bool,
+}
+
+impl Tokens<'_> {
+    /// Where the next token starts in the body.
+    #[inline]
+    pub const fn place(&self) -> usize {
+        self.place
+    }
+}
+
+impl<'a> Iterator for Tokens<'a> {
+    type Item = Result<Token<'a>, Refusal>;
+
+    #[inline]
+    fn next(&mut self) -> Option<Self::Item> {
+        if self.refused {
+            return None;
+        }
+        match token_at(self.body, self.place) {
+            Ok(None) => None,
+            Ok(Some(TokenAt { token, size })) => {
+                self.place += size;
+                Some(Ok(token))
+            }
+            Err(refusal) => {
+                self.refused = true;
+                Some(Err(refusal))
+            }
+        }
+    }
+}
+
+impl FusedIterator for Tokens<'_> {}
+
+/// A token that was found, with its part of the body.
+#[inline]
+fn token_of<'a>(body: &'a [u8], told: &sys::bsm_token) -> Token<'a> {
+    let [v0, v1, ..] = told.values;
+    let tail = part(body, told.start as usize, told.length as usize);
+    let strings = Strings {
+        count: told.count as u32,
+        bytes: tail,
+    };
+    match told.token {
+        0x23 => Token::Path { text: tail },
+        0x24 => Token::Subject32(party(&told.values, told.values[7] as u32)),
+        0x26 => Token::Process32(party(&told.values, told.values[7] as u32)),
+        0x27 => Token::Return32 {
+            error: v0 as u8,
+            value: v1 as u32,
+        },
+        0x28 => Token::Text { text: tail },
+        0x29 => Token::Opaque { bytes: tail },
+        0x2A => Token::InAddr { address: v0 as u32 },
+        0x2B => Token::Ip(ip_header(&told.values)),
+        0x2C => Token::Iport { port: v0 as u16 },
+        0x2D => Token::Arg32 {
+            argument: v0 as u8,
+            value: v1 as u32,
+            text: tail,
+        },
+        0x2F => Token::Seq {
+            sequence: v0 as u32,
+        },
+        0x32 => Token::IpcPerm(ipc_perm(&told.values)),
+        0x3B => Token::NewGroups {
+            groups: Groups::new(tail),
+        },
+        0x3C => Token::ExecArgs(strings),
+        0x3D => Token::ExecEnv(strings),
+        0x71 => Token::Arg64 {
+            argument: v0 as u8,
+            value: v1,
+            text: tail,
+        },
+        0x72 => Token::Return64 {
+            error: v0 as u8,
+            value: v1,
+        },
+        0x75 => Token::Subject64(party(&told.values, told.values[7])),
+        0x77 => Token::Process64(party(&told.values, told.values[7])),
+        // 52; the library finds no other token.
+        _ => Token::Exit {
+            status: v0 as u32,
+            value: v1 as u32,
+        },
+    }
+}
+
+#[inline]
+fn party<P>(values: &[u64; 10], port: P) -> Party<P> {
+    Party {
+        audit: values[0] as u32,
+        effective_user: values[1] as u32,
+        effective_group: values[2] as u32,
+        real_user: values[3] as u32,
+        real_group: values[4] as u32,
+        process: values[5] as u32,
+        session: values[6] as u32,
+        port,
+        address: values[8] as u32,
+    }
+}
+
+#[inline]
+fn ip_header(values: &[u64; 10]) -> IpHeader {
+    IpHeader {
+        version: values[0] as u8,
+        service: values[1] as u8,
+        length: values[2] as u16,
+        id: values[3] as u16,
+        offset: values[4] as u16,
+        ttl: values[5] as u8,
+        protocol: values[6] as u8,
+        checksum: values[7] as u16,
+        source: values[8] as u32,
+        destination: values[9] as u32,
+    }
+}
+
+#[inline]
+fn ipc_perm(values: &[u64; 10]) -> IpcPerm {
+    IpcPerm {
+        user: values[0] as u32,
+        group: values[1] as u32,
+        creator_user: values[2] as u32,
+        creator_group: values[3] as u32,
+        mode: values[4] as u32,
+        sequence: values[5] as u32,
+        key: values[6] as u32,
+    }
+}

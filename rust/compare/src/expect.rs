@@ -1,0 +1,196 @@
+//! The reference's answers and arguments in the types of the crate `bsm`.
+
+use bsm::{HeaderKind, Reason, Strings};
+use reference as plain;
+
+/// The reasons in the order of their numbers.
+const REASONS: [Reason; 11] = [
+    Reason::Short,
+    Reason::Place,
+    Reason::NotAnItem,
+    Reason::RecordLength,
+    Reason::Trailer,
+    Reason::NotABodyToken,
+    Reason::PastEnd,
+    Reason::BadText,
+    Reason::TimeRange,
+    Reason::NoRoom,
+    Reason::TooLarge,
+];
+
+/// A refusal.
+pub fn refusal(refusal: plain::Refusal) -> bsm::Refusal {
+    let reason = REASONS[usize::from(refusal.number) - 1];
+    assert_eq!(reason.number(), refusal.number);
+    bsm::Refusal {
+        reason,
+        place: refusal.place,
+        need: refusal.need,
+    }
+}
+
+/// A state.
+pub fn state(state: plain::State) -> bsm::State {
+    bsm::State {
+        place: state.place,
+        records: state.records,
+        files: state.files,
+    }
+}
+
+/// How a run ended.
+pub fn run(run: plain::Run) -> bsm::Run {
+    bsm::Run {
+        state: state(run.state),
+        refusal: run.refusal.map(refusal),
+    }
+}
+
+/// A header.
+pub fn header(header: plain::Header) -> bsm::Header {
+    bsm::Header {
+        kind: if header.number == 0x14 {
+            HeaderKind::Header32
+        } else {
+            HeaderKind::Header64
+        },
+        version: header.version,
+        event: header.event,
+        modifier: header.modifier,
+        seconds: header.seconds,
+        nanoseconds: header.nanoseconds,
+    }
+}
+
+/// An item.
+pub fn item(item: plain::Item<'_>) -> bsm::Item<'_> {
+    match item {
+        plain::Item::File {
+            size,
+            seconds,
+            microseconds,
+            name,
+        } => bsm::Item::File {
+            size,
+            seconds,
+            microseconds,
+            name,
+        },
+        plain::Item::Record {
+            size,
+            header: fields,
+            body,
+            tokens,
+        } => bsm::Item::Record {
+            size,
+            header: header(fields),
+            body,
+            tokens,
+        },
+    }
+}
+
+/// The name or the body of an item.
+pub fn part_of_item<'a>(item: &bsm::Item<'a>) -> &'a [u8] {
+    match *item {
+        bsm::Item::File { name, .. } => name,
+        bsm::Item::Record { body, .. } => body,
+    }
+}
+
+/// The varying part of a token, if its kind has one: a text without its zero
+/// byte.
+pub fn part_of_token<'a>(token: &bsm::Token<'a>) -> Option<&'a [u8]> {
+    use bsm::Token::*;
+    match *token {
+        Path { text } | Text { text } | Arg32 { text, .. } | Arg64 { text, .. } => Some(text),
+        Opaque { bytes } => Some(bytes),
+        NewGroups { groups } => Some(groups.bytes()),
+        ExecArgs(strings) | ExecEnv(strings) => Some(strings.bytes),
+        _ => None,
+    }
+}
+
+fn party<P>(party: plain::Party<P>) -> bsm::Party<P> {
+    bsm::Party {
+        audit: party.audit,
+        effective_user: party.effective_user,
+        effective_group: party.effective_group,
+        real_user: party.real_user,
+        real_group: party.real_group,
+        process: party.process,
+        session: party.session,
+        port: party.port,
+        address: party.address,
+    }
+}
+
+fn ip(header: plain::IpHeader) -> bsm::IpHeader {
+    bsm::IpHeader {
+        version: header.version,
+        service: header.service,
+        length: header.length,
+        id: header.id,
+        offset: header.offset,
+        ttl: header.ttl,
+        protocol: header.protocol,
+        checksum: header.checksum,
+        source: header.source,
+        destination: header.destination,
+    }
+}
+
+fn ipc(fields: plain::IpcPerm) -> bsm::IpcPerm {
+    bsm::IpcPerm {
+        user: fields.owner_user,
+        group: fields.owner_group,
+        creator_user: fields.creator_user,
+        creator_group: fields.creator_group,
+        mode: fields.mode,
+        sequence: fields.sequence,
+        key: fields.key,
+    }
+}
+
+/// A function from one of the reference's two token types.
+macro_rules! token_from {
+    ($(#[$about:meta])* $name:ident, $from:ident, $to:ty, $groups:expr) => {
+        $(#[$about])*
+        pub fn $name<'a>(token: plain::$from<'a>) -> $to {
+            use bsm::Token as T;
+            use plain::$from as F;
+            match token {
+                F::Path { text } => T::Path { text },
+                F::Text { text } => T::Text { text },
+                F::Opaque { bytes } => T::Opaque { bytes },
+                F::Subject32(fields) => T::Subject32(party(fields)),
+                F::Process32(fields) => T::Process32(party(fields)),
+                F::Subject64(fields) => T::Subject64(party(fields)),
+                F::Process64(fields) => T::Process64(party(fields)),
+                F::Return32 { error, value } => T::Return32 { error, value },
+                F::Return64 { error, value } => T::Return64 { error, value },
+                F::InAddr { address } => T::InAddr { address },
+                F::Ip(fields) => T::Ip(ip(fields)),
+                F::Iport { port } => T::Iport { port },
+                F::Arg32 { argument, value, text } => T::Arg32 { argument, value, text },
+                F::Arg64 { argument, value, text } => T::Arg64 { argument, value, text },
+                F::Seq { sequence } => T::Seq { sequence },
+                F::IpcPerm(fields) => T::IpcPerm(ipc(fields)),
+                F::NewGroups { groups } => T::NewGroups { groups: $groups(groups) },
+                F::ExecArgs { count, strings: bytes } => T::ExecArgs(Strings { count, bytes }),
+                F::ExecEnv { count, strings: bytes } => T::ExecEnv(Strings { count, bytes }),
+                F::Exit { status, value } => T::Exit { status, value },
+            }
+        }
+    };
+}
+
+token_from! {
+    /// A token as read.
+    token, Token, bsm::Token<'a>, bsm::Groups::new
+}
+
+token_from! {
+    /// A token to be written.
+    new_token, WriteToken, bsm::NewToken<'a>, core::convert::identity
+}

@@ -1,0 +1,55 @@
+//! How many inputs each test compares at least. Each test asserts its own
+//! share.
+
+/// Mixed trails and states.
+pub const MIXED: usize = 150_000;
+/// Good trails, read and written again.
+pub const GOOD: usize = 20_000;
+/// Damaged trails.
+pub const DAMAGED: usize = 100_000;
+/// Trails aimed at one refusal.
+pub const AIMED: usize = 45_000;
+/// Prefixes of trails.
+pub const PREFIXES: usize = 500_000;
+/// Places of small trails.
+pub const PLACES: usize = 500_000;
+/// States with wild places and totals.
+pub const STATES: usize = 100_000;
+/// Places of bodies.
+pub const BODIES: usize = 500_000;
+/// Writes.
+pub const WRITES: usize = 150_000;
+/// Trails cut at every byte.
+pub const EVERY_BYTE: usize = 150_000;
+/// Trails that grow in random steps.
+pub const RANDOM_STEPS: usize = 60_000;
+/// Reads at one place that wait.
+pub const WAITS: usize = 40_000;
+/// Lines of a listing.
+pub const LINES: usize = 100_000;
+/// Parts of a listing.
+pub const PARTS: usize = 60_000;
+/// Answers compared as C sees them.
+pub const FACE: usize = 60_000;
+/// Inputs of the program.
+pub const PROGRAM: usize = 400;
+
+/// All of them together.
+pub const TOTAL: usize = MIXED
+    + GOOD
+    + DAMAGED
+    + AIMED
+    + PREFIXES
+    + PLACES
+    + STATES
+    + BODIES
+    + WRITES
+    + EVERY_BYTE
+    + RANDOM_STEPS
+    + WAITS
+    + LINES
+    + PARTS
+    + FACE
+    + PROGRAM;
+
+const _: () = assert!(TOTAL >= 1_000_000);

@@ -1,0 +1,97 @@
+//! Reading body tokens on both sides.
+
+use crate::expect;
+use crate::reading::show;
+use crate::tally::Tally;
+use bsm::{Token, TokenAt};
+use reference::TokenAnswer;
+
+/// Compares the token at a place of a body, where its varying part stands,
+/// and the text access there.
+pub fn same_token(tally: &mut Tally, body: &[u8], place: usize) {
+    tally.input();
+    let plain = reference::token_at(body, place);
+    let expected = match plain {
+        TokenAnswer::Token { token, size, .. } => Ok(Some(TokenAt {
+            token: expect::token(token),
+            size,
+        })),
+        TokenAnswer::End => Ok(None),
+        TokenAnswer::Refused(refusal) => Err(expect::refusal(refusal)),
+    };
+    let found = bsm::token_at(body, place);
+    assert_eq!(found, expected, "token at {place} of {}", show(body));
+
+    let string = bsm::text_at(body, place);
+    let plain_string = reference::text_at(body, place);
+    assert_eq!(string.unwrap_or_default(), plain_string);
+    tally.answer(match plain {
+        TokenAnswer::Refused(refusal) => Some(refusal),
+        _ => None,
+    });
+    match (found, plain) {
+        (Ok(Some(found)), TokenAnswer::Token { start, length, .. }) => {
+            tally.kind(found.token.number());
+            same_part(body, &found.token, start, length);
+            match found.token {
+                Token::Path { text } | Token::Text { text } => {
+                    assert_eq!(string.map(<[u8]>::as_ptr), Some(text.as_ptr()));
+                }
+                _ => assert_eq!(string, None),
+            }
+        }
+        _ => assert_eq!(string, None),
+    }
+}
+
+/// Asserts that a token's varying part stands at `start` and has `length`
+/// bytes, a text's zero byte included.
+fn same_part(body: &[u8], token: &Token<'_>, start: usize, length: usize) {
+    let Some(part) = expect::part_of_token(token) else {
+        assert_eq!(length, 0);
+        return;
+    };
+    let zero = match token {
+        Token::Path { .. } | Token::Text { .. } | Token::Arg32 { .. } | Token::Arg64 { .. } => 1,
+        _ => 0,
+    };
+    assert_eq!(part.as_ptr(), body[start..].as_ptr());
+    assert_eq!(part.len() + zero, length);
+    match token {
+        Token::ExecArgs(strings) | Token::ExecEnv(strings) => {
+            let rejoined: Vec<u8> = strings
+                .iter()
+                .flat_map(|string| [string, &[0]].concat())
+                .collect();
+            assert_eq!(rejoined, part);
+            assert_eq!(strings.iter().count(), strings.count as usize);
+        }
+        Token::NewGroups { groups } => {
+            let rejoined: Vec<u8> = groups.into_iter().flat_map(u32::to_be_bytes).collect();
+            assert_eq!(rejoined, part);
+            assert_eq!(groups.len() * 4, length);
+        }
+        _ => {}
+    }
+}
+
+/// Compares a body's walk and its tokens one after the other.
+pub fn same_body(tally: &mut Tally, body: &[u8]) {
+    tally.input();
+    let plain = reference::walk_body(body);
+    let expected = plain.map_err(expect::refusal);
+    let found = bsm::walk_body(body);
+    assert_eq!(found, expected, "walk of {}", show(body));
+    tally.answer(plain.err());
+
+    let mut tokens = bsm::tokens(body);
+    let mut place = 0;
+    while let TokenAnswer::Token { token, size, .. } = reference::token_at(body, place) {
+        assert_eq!(tokens.place(), place);
+        assert_eq!(tokens.next(), Some(Ok(expect::token(token))));
+        place += size;
+    }
+    assert_eq!(tokens.place(), place);
+    assert_eq!(tokens.next(), expected.err().map(Err));
+    assert_eq!(tokens.next(), None);
+}

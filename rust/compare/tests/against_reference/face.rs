@@ -1,0 +1,339 @@
+//! The answers as C sees them, every field of them.
+
+use bsm::sys::*;
+use compare::*;
+use generator::*;
+use reference::{Answer, Item, Party, Refusal, Token, TokenAnswer};
+
+fn raw_item(answer: Answer<'_>) -> bsm_item {
+    match answer {
+        Answer::End => bsm_item {
+            kind: BSM_END,
+            ..bsm_item::default()
+        },
+        Answer::Item(Item::File {
+            size,
+            seconds,
+            microseconds,
+            ..
+        }) => bsm_item {
+            kind: BSM_FILE,
+            size: size as u64,
+            seconds: seconds.into(),
+            fraction: microseconds.into(),
+            ..bsm_item::default()
+        },
+        Answer::Item(Item::Record {
+            size,
+            header,
+            tokens,
+            ..
+        }) => bsm_item {
+            kind: BSM_RECORD,
+            size: size as u64,
+            header: header.number.into(),
+            version: header.version.into(),
+            event: header.event.into(),
+            modifier: header.modifier.into(),
+            seconds: header.seconds,
+            fraction: header.nanoseconds,
+            tokens: tokens as u64,
+            ..bsm_item::default()
+        },
+        Answer::Refused(refusal) => bsm_item {
+            kind: BSM_REFUSED,
+            number: refusal.number.into(),
+            place: refusal.place as u64,
+            need: refusal.need as u64,
+            ..bsm_item::default()
+        },
+    }
+}
+
+fn party<P: Into<u64>>(party: Party<P>) -> Vec<u64> {
+    let users = [
+        party.audit,
+        party.effective_user,
+        party.effective_group,
+        party.real_user,
+        party.real_group,
+        party.process,
+        party.session,
+    ];
+    let mut values: Vec<u64> = users.map(u64::from).to_vec();
+    values.extend([party.port.into(), party.address.into()]);
+    values
+}
+
+/// The length, number or count field of a token, and its other fields.
+fn fields(token: Token<'_>, length: usize) -> (u64, Vec<u64>) {
+    let length = length as u64;
+    match token {
+        Token::Path { .. } | Token::Text { .. } | Token::Opaque { .. } => (length, vec![]),
+        Token::NewGroups { .. } => (length / 4, vec![]),
+        Token::ExecArgs { count, .. } | Token::ExecEnv { count, .. } => (count.into(), vec![]),
+        Token::Arg32 {
+            argument, value, ..
+        } => (length, vec![argument.into(), value.into()]),
+        Token::Arg64 {
+            argument, value, ..
+        } => (length, vec![argument.into(), value]),
+        Token::Subject32(fields) | Token::Process32(fields) => (0, party(fields)),
+        Token::Subject64(fields) | Token::Process64(fields) => (0, party(fields)),
+        Token::Return32 { error, value } => (0, vec![error.into(), value.into()]),
+        Token::Return64 { error, value } => (0, vec![error.into(), value]),
+        Token::InAddr { address } => (0, vec![address.into()]),
+        Token::Iport { port } => (0, vec![port.into()]),
+        Token::Seq { sequence } => (0, vec![sequence.into()]),
+        Token::Exit { status, value } => (0, vec![status.into(), value.into()]),
+        Token::IpcPerm(ipc) => {
+            let values = [
+                ipc.owner_user,
+                ipc.owner_group,
+                ipc.creator_user,
+                ipc.creator_group,
+                ipc.mode,
+                ipc.sequence,
+                ipc.key,
+            ];
+            (0, values.map(u64::from).to_vec())
+        }
+        Token::Ip(ip) => {
+            let values = vec![
+                ip.version.into(),
+                ip.service.into(),
+                ip.length.into(),
+                ip.id.into(),
+                ip.offset.into(),
+                ip.ttl.into(),
+                ip.protocol.into(),
+                ip.checksum.into(),
+                ip.source.into(),
+                ip.destination.into(),
+            ];
+            (0, values)
+        }
+    }
+}
+
+fn raw_token(answer: TokenAnswer<'_>) -> bsm_token {
+    match answer {
+        TokenAnswer::End => bsm_token {
+            kind: BSM_NO_TOKEN,
+            ..bsm_token::default()
+        },
+        TokenAnswer::Token {
+            token,
+            start,
+            length,
+            size,
+        } => {
+            let (count, fields) = fields(token, length);
+            let mut values = [0; 10];
+            values[..fields.len()].copy_from_slice(&fields);
+            let text = matches!(token.number(), 0x23 | 0x28 | 0x2D | 0x71);
+            bsm_token {
+                kind: BSM_TOKEN,
+                token: token.number().into(),
+                start: start as u64,
+                length: (length - usize::from(text)) as u64,
+                size: size as u64,
+                count,
+                values,
+                ..bsm_token::default()
+            }
+        }
+        TokenAnswer::Refused(refusal) => bsm_token {
+            kind: BSM_TOKEN_REFUSED,
+            number: refusal.number.into(),
+            place: refusal.place as u64,
+            need: refusal.need as u64,
+            ..bsm_token::default()
+        },
+    }
+}
+
+/// Where a part stands in a buffer, or 0 and 0.
+fn raw_part(bytes: &[u8], part: Option<&[u8]>) -> bsm_part {
+    part.map_or_else(bsm_part::default, |part| bsm_part {
+        start: (part.as_ptr() as usize - bytes.as_ptr() as usize) as u64,
+        length: part.len() as u64,
+    })
+}
+
+fn raw_written(answer: Result<usize, Refusal>) -> bsm_written {
+    match answer {
+        Ok(written) => bsm_written {
+            written: written as u64,
+            ..bsm_written::default()
+        },
+        Err(refusal) => bsm_written {
+            written: 0,
+            number: refusal.number.into(),
+            place: refusal.place as u64,
+            need: refusal.need as u64,
+        },
+    }
+}
+
+#[test]
+fn items_field_by_field() {
+    let mut rng = Rng::new(801);
+    let mut tally = Tally::new();
+    while tally.inputs() < FACE / 2 {
+        let (trail, state) = any_input(&mut rng);
+        let (bytes, length) = (trail.as_ptr(), trail.len());
+        let (records, files) = (state.records, state.files);
+        let place = match rng.below(3) {
+            0 => wild_place(&mut rng, length),
+            _ => 0,
+        };
+        tally.input();
+        let answer = reference::item_at(&trail, place);
+        let (body, name) = match answer {
+            Answer::Item(Item::Record { body, .. }) => (Some(body), None),
+            Answer::Item(Item::File { name, .. }) => (None, Some(name)),
+            _ => (None, None),
+        };
+        // SAFETY: the pointer and the length are those of `trail`.
+        unsafe {
+            let found = bsm_item_at(bytes, length, place);
+            assert_eq!(found, raw_item(answer));
+            let found = bsm_body_at(bytes, length, place);
+            assert_eq!(found, raw_part(&trail, body));
+            let found = bsm_name_at(bytes, length, place);
+            assert_eq!(found, raw_part(&trail, name));
+        }
+
+        let run = reference::run(&trail, state);
+        tally.answer(run.refusal);
+        let refusal = run
+            .refusal
+            .map(Err)
+            .map_or(bsm_written::default(), raw_written);
+        let expected = bsm_outcome {
+            place: run.state.place as u64,
+            records: run.state.records as u64,
+            files: run.state.files as u64,
+            number: refusal.number,
+            at: refusal.place,
+            need: refusal.need,
+        };
+        // SAFETY: as above.
+        let found = unsafe { bsm_run(bytes, length, state.place, records, files) };
+        assert_eq!(found, expected);
+        // Where a run stops a step finds the same and goes nowhere.
+        let last = run.state;
+        // SAFETY: as above.
+        let found = unsafe { bsm_next(bytes, length, last.place, last.records, last.files) };
+        let kind = if run.refusal.is_some() {
+            BSM_REFUSED
+        } else {
+            BSM_END
+        };
+        let expected = bsm_step {
+            item: bsm_item {
+                kind,
+                number: refusal.number,
+                place: refusal.place,
+                need: refusal.need,
+                ..bsm_item::default()
+            },
+            place: last.place as u64,
+            records: last.records as u64,
+            files: last.files as u64,
+        };
+        assert_eq!(found, expected);
+    }
+    tally.finish("items field by field", FACE / 2, 1..=9);
+}
+
+#[test]
+fn tokens_field_by_field() {
+    let mut rng = Rng::new(802);
+    let mut tally = Tally::new();
+    while tally.inputs() < FACE / 2 {
+        let body = any_body(&mut rng);
+        let (bytes, length) = (body.as_ptr(), body.len());
+        let mut place = 0;
+        loop {
+            tally.input();
+            let answer = reference::token_at(&body, place);
+            let string = match answer {
+                TokenAnswer::Token {
+                    token: Token::Path { text } | Token::Text { text },
+                    ..
+                } => Some(text),
+                _ => None,
+            };
+            // SAFETY: the pointer and the length are those of `body`.
+            unsafe {
+                let found = bsm_token_at(bytes, length, place);
+                assert_eq!(found, raw_token(answer));
+                let found = bsm_text_at(bytes, length, place);
+                assert_eq!(found, raw_part(&body, string));
+            }
+            match answer {
+                TokenAnswer::Token { token, size, .. } => {
+                    tally.kind(token.number());
+                    place += size;
+                }
+                TokenAnswer::End => {
+                    tally.answer(None);
+                    break;
+                }
+                TokenAnswer::Refused(refusal) => {
+                    tally.answer(Some(refusal));
+                    break;
+                }
+            }
+        }
+        let expected = raw_written(reference::walk_body(&body));
+        // SAFETY: as above.
+        assert_eq!(unsafe { bsm_walk_body(bytes, length) }, expected);
+    }
+    tally.finish("tokens field by field", FACE / 2, [6, 7, 8]);
+    tally.finish_kinds("tokens field by field");
+}
+
+#[test]
+fn writers_and_lists_field_by_field() {
+    let mut rng = Rng::new(803);
+    let mut checked = 0;
+    for _ in 0..2_000 {
+        let text = rng.bytes(20);
+        let room = rng.below(40);
+        let mut dst = [0; 40];
+        let args = reference::WriteToken::Text { text: &text };
+        let expected = raw_written(reference::write_token(&mut [0; 40][..room], &args));
+        // SAFETY: `room` is at most the length of `dst`, and `text` is
+        // another buffer.
+        let found = unsafe { bsm_write_text(dst.as_mut_ptr(), room, text.as_ptr(), text.len()) };
+        assert_eq!(found, expected);
+
+        // Any stage from 2 on is the end of a listing.
+        let stage = rng.u64().max(2);
+        let [place, records, files] = [(); 3].map(|()| rng.u64() as usize);
+        let mut out = [0; 200];
+        // SAFETY: pointers and lengths are those of two buffers.
+        let found = unsafe {
+            bsm_list(
+                out.as_mut_ptr(),
+                out.len(),
+                text.as_ptr(),
+                text.len(),
+                stage,
+                place,
+                records,
+                files,
+            )
+        };
+        let expected = bsm_listing {
+            stage: BSM_LIST_DONE,
+            ..bsm_listing::default()
+        };
+        assert_eq!((found, out), (expected, [0; 200]));
+        checked += 1;
+    }
+    assert_eq!(checked, 2_000);
+}

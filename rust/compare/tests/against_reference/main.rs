@@ -1,0 +1,13 @@
+//! The proved library against the crate `reference`, and against the cases
+//! of paper 01. All in one program, so that the tests share the cores.
+
+mod bodies;
+mod cases;
+mod edges;
+mod face;
+mod growing;
+mod listing;
+mod places;
+mod program;
+mod trails;
+mod writers;

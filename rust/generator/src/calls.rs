@@ -1,0 +1,205 @@
+//! Calls of the writers, good ones and ones to be refused.
+
+use crate::damage::damage_body;
+use crate::good::{body_for, good_body, good_header};
+use crate::layout::{header_size, Tail, TOKEN_NUMBERS};
+use crate::rng::Rng;
+use crate::targeted::bad_body;
+use crate::token_args::{good_args, TokenArgs};
+use crate::values;
+use reference::{write_file, write_record, write_token, Header, Refusal};
+
+/// The arguments of one writer.
+#[derive(Clone, Debug)]
+pub enum WriteArgs {
+    /// For the token writer.
+    Token(TokenArgs),
+    /// For the file token writer.
+    File {
+        /// Seconds.
+        seconds: u32,
+        /// Microseconds.
+        microseconds: u32,
+        /// The name without its zero byte.
+        name: Vec<u8>,
+    },
+    /// For the record writer.
+    Record {
+        /// The header.
+        header: Header,
+        /// The body.
+        body: Vec<u8>,
+    },
+}
+
+/// A call: arguments, and how large a destination to lend.
+#[derive(Clone, Debug)]
+pub struct WriteCall {
+    /// The arguments.
+    pub args: WriteArgs,
+    /// Size of the destination.
+    pub room: usize,
+}
+
+impl WriteArgs {
+    /// The bytes to be written, if not refused.
+    pub fn size(&self) -> usize {
+        match self {
+            WriteArgs::Token(args) => args.size(),
+            WriteArgs::File { name, .. } => 11 + name.len() + 1,
+            WriteArgs::Record { header, body } => header_size(header.number) + body.len() + 7,
+        }
+    }
+
+    /// Calls the writer of the crate `reference`.
+    pub fn write(&self, dst: &mut [u8]) -> Result<usize, Refusal> {
+        match self {
+            WriteArgs::Token(args) => write_token(dst, &args.token()),
+            WriteArgs::File {
+                seconds,
+                microseconds,
+                name,
+            } => write_file(dst, *seconds, *microseconds, name),
+            WriteArgs::Record { header, body } => write_record(dst, header, body),
+        }
+    }
+}
+
+/// One call for each of the twenty token kinds, for the file token and for
+/// records with either header. About half of those that can be refused for
+/// their values are.
+pub fn write_calls(rng: &mut Rng) -> Vec<WriteCall> {
+    let mut all = Vec::with_capacity(TOKEN_NUMBERS.len() + 3);
+    for number in TOKEN_NUMBERS {
+        all.push(WriteArgs::Token(token(rng, number)));
+    }
+    all.push(file(rng));
+    all.push(record(rng, 0x14));
+    all.push(record(rng, 0x74));
+    all.into_iter()
+        .map(|args| {
+            let room = room(rng, args.size());
+            WriteCall { args, room }
+        })
+        .collect()
+}
+
+/// A destination's size: mostly enough, often exactly so or one too few.
+fn room(rng: &mut Rng, size: usize) -> usize {
+    match rng.below(8) {
+        0 => size - 1,
+        1 => rng.below(size),
+        2 => rng.pick(&[0, 1]),
+        3 | 4 => size,
+        5 => size + 1,
+        _ => size + rng.below(40),
+    }
+}
+
+/// A token's arguments, good or not.
+fn token(rng: &mut Rng, number: u8) -> TokenArgs {
+    let mut args = good_args(rng, number);
+    if rng.chance(2) {
+        return args;
+    }
+    // Large ones are rare, since they are slow.
+    let large = rng.chance(24);
+    match args.tail() {
+        Tail::None => {}
+        Tail::Text => {
+            if large {
+                let length = rng.pick(&[65_533, 65_534, 65_535, 65_536]);
+                args.bytes = values::letters(rng, length);
+            }
+            if !large || rng.chance(3) {
+                let middle = rng.below(args.bytes.len());
+                let at = rng.pick(&[0, middle, args.bytes.len()]);
+                args.bytes.insert(at, 0);
+            }
+        }
+        Tail::Bytes if large => {
+            let length = rng.pick(&[65_534, 65_535, 65_536, 70_000]);
+            args.bytes = rng.bytes(length);
+        }
+        Tail::Bytes => {}
+        Tail::Groups if large => {
+            let count = rng.pick(&[65_534, 65_535, 65_536, 65_537]);
+            args.groups = (0..count).collect();
+        }
+        Tail::Groups => {}
+        Tail::Strings => bad_strings(rng, &mut args),
+    }
+    args
+}
+
+/// Makes strings and count of an exec token disagree.
+fn bad_strings(rng: &mut Rng, args: &mut TokenArgs) {
+    let zeros = args.bytes.iter().filter(|&&byte| byte == 0).count() as u32;
+    match rng.below(7) {
+        0 => args.set_count(zeros + 1),
+        1 => args.set_count(zeros.wrapping_sub(1)),
+        2 => args.set_count(rng.u32()),
+        3 => drop(args.bytes.pop()),
+        4 => args.bytes.push(rng.byte()),
+        5 => args.bytes.push(0),
+        _ => {
+            let at = rng.below(args.bytes.len());
+            if let Some(byte) = args.bytes.get_mut(at) {
+                *byte = rng.pick(&[0, 1]);
+            }
+        }
+    }
+}
+
+/// A file token's arguments, good or not.
+fn file(rng: &mut Rng) -> WriteArgs {
+    let mut name = values::name(rng);
+    let mut microseconds = values::fraction(rng, 999_999);
+    if rng.chance(4) {
+        microseconds = values::over(rng, 999_999, 32) as u32;
+    }
+    if rng.chance(4) {
+        let length = rng.pick(&[1_022, 1_023, 1_024, 1_025, 70_000]);
+        name = values::letters(rng, length);
+    }
+    if rng.chance(4) {
+        let at = rng.between(0, name.len());
+        name.insert(at, 0);
+    }
+    WriteArgs::File {
+        seconds: rng.u32(),
+        microseconds,
+        name,
+    }
+}
+
+/// A record's arguments, good or not.
+fn record(rng: &mut Rng, number: u8) -> WriteArgs {
+    let mut header = good_header(rng);
+    header.number = number;
+    if number == 0x14 {
+        header.seconds &= 0xFFFF_FFFF;
+    }
+    if rng.chance(4) {
+        let any = rng.u64();
+        header.seconds = rng.pick(&[0xFFFF_FFFF, 0x1_0000_0000, u64::MAX, any]);
+    }
+    if rng.chance(4) {
+        let width = rng.pick(&[32, 64]);
+        header.nanoseconds = values::over(rng, 999_999_999, width);
+    }
+    let mut body = good_body(rng);
+    if rng.chance(16) {
+        let size = rng.pick(&[65_534, 65_535, 65_536, 65_537, 65_544]);
+        body = body_for(rng, number, size);
+    }
+    match rng.below(6) {
+        0 => damage_body(rng, &mut body),
+        1 => {
+            let refused = rng.pick(&[6, 7, 8]);
+            body = bad_body(rng, refused);
+        }
+        _ => {}
+    }
+    WriteArgs::Record { header, body }
+}

@@ -1,0 +1,114 @@
+//! Good tokens, bodies, items and trails.
+
+use crate::layout::{header_size, TOKEN_NUMBERS};
+use crate::rng::Rng;
+use crate::token_args::{good_args, TokenArgs};
+use crate::values;
+use reference::{write_file, write_record, write_token, Header, WriteToken};
+
+/// Largest size of a record.
+const RECORD_MAX: usize = 65_535;
+
+/// The bytes of a token that the writer takes.
+pub(crate) fn token_bytes(args: &TokenArgs) -> Vec<u8> {
+    let mut bytes = vec![0; args.size()];
+    let written = write_token(&mut bytes, &args.token());
+    assert_eq!(written, Ok(bytes.len()), "a good token was refused");
+    bytes
+}
+
+/// A good token of any kind.
+pub fn good_token(rng: &mut Rng) -> Vec<u8> {
+    let number = rng.pick(&TOKEN_NUMBERS);
+    token_bytes(&good_args(rng, number))
+}
+
+/// A good body, small enough for either header; often empty.
+pub fn good_body(rng: &mut Rng) -> Vec<u8> {
+    let count = match rng.below(16) {
+        0..=2 => 0,
+        3..=5 => 1,
+        15 if rng.chance(4) => rng.below(60),
+        _ => rng.below(7),
+    };
+    let mut body = Vec::new();
+    for _ in 0..count {
+        let token = good_token(rng);
+        if body.len() + token.len() <= RECORD_MAX - 34 {
+            body.extend(token);
+        }
+    }
+    body
+}
+
+/// A good header of either kind.
+pub fn good_header(rng: &mut Rng) -> Header {
+    let number = rng.pick(&[0x14, 0x74]);
+    Header {
+        number,
+        version: rng.u16(),
+        event: rng.u16(),
+        modifier: rng.u16(),
+        seconds: rng.number(if number == 0x14 { 32 } else { 64 }),
+        nanoseconds: values::fraction(rng, 999_999_999).into(),
+    }
+}
+
+/// A body whose record has exactly `size` bytes: one opaque behind a
+/// return token.
+pub(crate) fn body_for(rng: &mut Rng, number: u8, size: usize) -> Vec<u8> {
+    let mut body = token_bytes(&good_args(rng, 0x27));
+    let left = size - header_size(number) - 7 - body.len();
+    let mut opaque = TokenArgs {
+        fields: WriteToken::Opaque { bytes: &[] },
+        bytes: vec![0; left - 3],
+        groups: Vec::new(),
+    };
+    rng.fill(&mut opaque.bytes);
+    body.extend(token_bytes(&opaque));
+    body
+}
+
+/// A good record; rarely one of the largest.
+pub fn good_record(rng: &mut Rng) -> Vec<u8> {
+    let header = good_header(rng);
+    let body = if rng.chance(2_000) {
+        let size = RECORD_MAX - rng.below(2);
+        body_for(rng, header.number, size)
+    } else {
+        good_body(rng)
+    };
+    record_bytes(&header, &body)
+}
+
+/// The bytes of a record that the writer takes.
+pub(crate) fn record_bytes(header: &Header, body: &[u8]) -> Vec<u8> {
+    let mut record = vec![0; header_size(header.number) + body.len() + 7];
+    let written = write_record(&mut record, header, body);
+    assert_eq!(written, Ok(record.len()), "a good record was refused");
+    record
+}
+
+/// A good file token.
+pub fn good_file(rng: &mut Rng) -> Vec<u8> {
+    let name = values::name(rng);
+    let micros = values::fraction(rng, 999_999);
+    let mut file = vec![0; 11 + name.len() + 1];
+    let written = write_file(&mut file, rng.u32(), micros, &name);
+    assert_eq!(written, Ok(file.len()), "a good file token was refused");
+    file
+}
+
+/// A good trail of about `items` items, one in five a file token.
+pub fn good_trail(rng: &mut Rng, items: usize) -> Vec<u8> {
+    let count = rng.between(items / 2, items + items / 2);
+    let mut trail = Vec::new();
+    for _ in 0..count {
+        trail.extend(if rng.chance(5) {
+            good_file(rng)
+        } else {
+            good_record(rng)
+        });
+    }
+    trail
+}

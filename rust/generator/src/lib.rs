@@ -1,0 +1,30 @@
+//! Seeded inputs for readers and writers of BSM audit trails: good ones,
+//! damaged ones, ones aimed at a refusal number, and large ones for timing.
+//! The same seed gives the same inputs on every machine.
+//!
+//! Good bytes are made with the writers of the crate `reference`; what is
+//! damaged is found with the layouts written down here once more.
+
+#![forbid(unsafe_code)]
+#![warn(missing_docs)]
+
+mod calls;
+mod damage;
+mod good;
+mod input;
+mod layout;
+mod rng;
+mod targeted;
+mod token_args;
+mod values;
+mod workload;
+
+pub use calls::{write_calls, WriteArgs, WriteCall};
+pub use damage::{damage, damage_body};
+pub use good::{good_body, good_file, good_header, good_record, good_token, good_trail};
+pub use input::{any_body, any_input, growth, program_input, random_trail, wild_place, wild_state};
+pub use layout::{raw_file, raw_record, TOKEN_NUMBERS};
+pub use rng::Rng;
+pub use targeted::{many_faults, targeted};
+pub use token_args::{good_args, TokenArgs};
+pub use workload::{large_exec, large_opaque, small_records, usual_records};

@@ -1,0 +1,320 @@
+//! Inputs aimed at one refusal number, or at several faults at once.
+
+use crate::damage::damage_body;
+use crate::good::{good_body, good_file, good_header, good_record, good_token, good_trail};
+use crate::layout::{header_size, raw_file, raw_record, set, shape, TOKEN_NUMBERS};
+use crate::rng::Rng;
+use crate::values;
+use reference::State;
+
+/// A trail and a state whose reading is likely refused with `number`, 1 to
+/// 9. The state is fresh except for number 2, which no fresh state meets.
+/// Any other number gives a good trail.
+pub fn targeted(rng: &mut Rng, number: u8) -> (Vec<u8>, State) {
+    let before = rng.below(3);
+    let mut trail = good_trail(rng, before);
+    match number {
+        1 => trail.extend(cut_item(rng)),
+        3 => {
+            let first = loop {
+                let byte = rng.u8();
+                if !matches!(byte, 0x11 | 0x14 | 0x74) {
+                    break byte;
+                }
+            };
+            trail.push(first);
+        }
+        4 => trail.extend(bad_count(rng)),
+        5 => trail.extend(bad_trailer(rng)),
+        6 | 7 => trail.extend(bad_token(rng, number)),
+        8 if rng.chance(3) => trail.extend(bad_name(rng)),
+        8 => trail.extend(bad_token(rng, number)),
+        9 => trail.extend(bad_fraction(rng)),
+        _ => {}
+    }
+    match rng.below(3) {
+        0 if number != 1 => trail.extend(good_record(rng)),
+        1 if number != 1 => {
+            let more = rng.below(40);
+            trail.extend(rng.bytes(more));
+        }
+        _ => {}
+    }
+    let state = match number {
+        2 => refused_state(rng, trail.len()),
+        _ => State::default(),
+    };
+    (trail, state)
+}
+
+/// A state that is refused with 2, whatever the trail of this length.
+fn refused_state(rng: &mut Rng, length: usize) -> State {
+    let beyond = length.saturating_add(1).saturating_add(rng.below(4));
+    let place = rng.between(0, length);
+    let over = place + 1;
+    let (place, records, files) = match rng.below(5) {
+        0 => (beyond, 0, 0),
+        1 => (rng.pick(&[beyond, usize::MAX, usize::MAX / 2]), 1, 2),
+        2 => {
+            let records = rng.between(0, over);
+            (place, records, over - records)
+        }
+        3 => (place, usize::MAX - rng.below(2), rng.between(2, over + 1)),
+        _ => (place, usize::MAX / 2 + 1, rng.bits() as usize),
+    };
+    State {
+        place,
+        records,
+        files,
+    }
+}
+
+/// A good item without its end.
+fn cut_item(rng: &mut Rng) -> Vec<u8> {
+    let mut item = if rng.chance(3) {
+        good_file(rng)
+    } else {
+        good_record(rng)
+    };
+    let keep = match rng.below(4) {
+        0 => rng.between(1, 11),
+        1 => item.len() - 1,
+        _ => rng.between(1, item.len() - 1),
+    };
+    item.truncate(keep.min(item.len() - 1));
+    item
+}
+
+/// A record whose count is out of bounds.
+fn bad_count(rng: &mut Rng) -> Vec<u8> {
+    let mut record = good_record(rng);
+    let least = header_size(record[0]) as u32 + 7;
+    let count = match rng.below(6) {
+        0 => least - 1,
+        1 => 65_536,
+        2 => rng.below(least as usize) as u32,
+        3 => rng.u32() | 0x1_0000,
+        4 => rng.pick(&[0, 1, 7, 19, 25, u32::MAX, 1 << 31]),
+        _ => rng.pick(&[0x1_001A, 0x0100_001A, 0x1_0022, 0x8000_001A]),
+    };
+    set(&mut record, 1, &count.to_be_bytes());
+    if rng.chance(2) {
+        let end = record.len();
+        set(&mut record, end - 4, &count.to_be_bytes());
+    }
+    if rng.chance(3) {
+        record.truncate(rng.between(5, 12));
+    }
+    record
+}
+
+/// A record without its trailer where the count says.
+fn bad_trailer(rng: &mut Rng) -> Vec<u8> {
+    let mut record = good_record(rng);
+    let size = record.len();
+    match rng.below(4) {
+        0 => {
+            let at = size - 1 - rng.below(7);
+            record[at] = record[at].wrapping_add(rng.between(1, 255) as u8);
+        }
+        1 => {
+            let at = size - 1 - rng.below(7);
+            record[at] ^= 1 << rng.below(8);
+        }
+        2 => {
+            // One byte later than the count says.
+            let at = rng.between(header_size(record[0]), size - 7);
+            record.insert(at, rng.byte());
+        }
+        _ => {
+            let count = (size as u32).saturating_sub(1).max(34);
+            set(&mut record, 1, &count.to_be_bytes());
+        }
+    }
+    if rng.chance(3) {
+        // 9 would come later.
+        set(&mut record, 15, &[0xFF; 4]);
+    }
+    record
+}
+
+/// A record with a body refused with 6, 7 or 8.
+fn bad_token(rng: &mut Rng, number: u8) -> Vec<u8> {
+    let header = good_header(rng);
+    let body = bad_body(rng, number);
+    raw_record(&header, &body)
+}
+
+/// A body refused with 6, 7 or 8.
+pub(crate) fn bad_body(rng: &mut Rng, number: u8) -> Vec<u8> {
+    let mut body = Vec::new();
+    for _ in 0..rng.below(3) {
+        body.extend(good_token(rng));
+    }
+    match number {
+        6 => {
+            let first = loop {
+                let byte = rng.byte();
+                if shape(byte).is_none() {
+                    break byte;
+                }
+            };
+            body.push(rng.pick(&[first, first, 0x11, 0x13, 0x14, 0x74]));
+            let more = rng.below(30);
+            body.extend(rng.bytes(more));
+        }
+        7 => body.extend(overlong_token(rng)),
+        _ => {
+            body.extend(bad_text_token(rng));
+            if rng.chance(2) {
+                body.extend(good_token(rng));
+            }
+        }
+    }
+    body
+}
+
+/// A token, last in its body, that has no end there.
+fn overlong_token(rng: &mut Rng) -> Vec<u8> {
+    let mut token = good_token(rng);
+    if rng.chance(2) {
+        token.truncate(rng.between(1, token.len() - 1));
+        return token;
+    }
+    let more = rng.below(20);
+    match rng.below(3) {
+        0 => {
+            let number = rng.pick(&[0x23, 0x28, 0x29]);
+            let length = (more as u16).saturating_add(rng.pick(&[1, 2, 300, u16::MAX]));
+            token = vec![number];
+            token.extend(length.to_be_bytes());
+            token.extend(rng.bytes(more));
+        }
+        1 => {
+            let count = rng.pick(&[(more / 4) as u16 + 1, 0x4000, 0x8000, u16::MAX]);
+            token = vec![0x3B];
+            token.extend(count.to_be_bytes());
+            token.extend(rng.bytes(more));
+        }
+        _ => {
+            let mut strings = values::strings(rng);
+            if rng.chance(3) {
+                strings.1.extend(values::letters(rng, more));
+            }
+            let count = rng.pick(&[strings.0 + 1, strings.0 + 2, u32::MAX, 1 << 31]);
+            token = vec![rng.pick(&[0x3C, 0x3D])];
+            token.extend(count.to_be_bytes());
+            token.extend(strings.1);
+        }
+    }
+    token
+}
+
+/// Bytes, zero byte included, that are not a good text.
+fn bad_text(rng: &mut Rng) -> Vec<u8> {
+    let mut text = values::text(rng);
+    text.push(0);
+    let last = text.len() - 1;
+    match rng.below(4) {
+        0 => text.clear(),
+        1 => text[last] = rng.byte().max(1),
+        2 if last > 0 => text[rng.below(last)] = 0,
+        _ => text.insert(rng.below(2), 0),
+    }
+    text
+}
+
+/// A token with a bad text and the right length for it.
+fn bad_text_token(rng: &mut Rng) -> Vec<u8> {
+    let text = bad_text(rng);
+    let number = rng.pick(&[0x23, 0x28, 0x2D, 0x71]);
+    let fixed = shape(number).map_or(3, |shape| shape.0);
+    let mut token = vec![number];
+    token.extend(rng.bytes(fixed - 3));
+    token.extend((text.len() as u16).to_be_bytes());
+    token.extend(text);
+    token
+}
+
+/// A file token with a bad name.
+fn bad_name(rng: &mut Rng) -> Vec<u8> {
+    let micros = values::fraction(rng, 999_999);
+    let mut name = bad_text(rng);
+    if rng.chance(3) {
+        // Too long, with or without bytes behind it.
+        let length = rng.pick(&[1_025, 1_026, 2_048, u16::MAX]);
+        name.truncate(rng.between(0, name.len()));
+        return raw_file(rng.u32(), micros, length, &name);
+    }
+    raw_file(rng.u32(), micros, name.len() as u16, &name)
+}
+
+/// An item with its time fraction over the bound.
+fn bad_fraction(rng: &mut Rng) -> Vec<u8> {
+    if rng.chance(3) {
+        let mut file = good_file(rng);
+        let micros = values::over(rng, 999_999, 32) as u32;
+        set(&mut file, 5, &micros.to_be_bytes());
+        if rng.chance(3) {
+            // 8 or short would come later.
+            set(&mut file, 9, &rng.u16().to_be_bytes());
+        }
+        return file;
+    }
+    let mut header = good_header(rng);
+    let width = if header.number == 0x14 { 32 } else { 64 };
+    header.nanoseconds = values::over(rng, 999_999_999, width);
+    let mut body = good_body(rng);
+    if rng.chance(3) {
+        damage_body(rng, &mut body);
+    }
+    raw_record(&header, &body)
+}
+
+/// One item with several faults, so that the order of refusals shows.
+pub fn many_faults(rng: &mut Rng) -> Vec<u8> {
+    let mut item = if rng.chance(3) {
+        let mut name = values::name(rng);
+        name.push(0);
+        if rng.chance(2) {
+            name = bad_text(rng);
+        }
+        let mut length = name.len() as u16;
+        if rng.chance(3) {
+            length = rng.pick(&[0, 1, 1_024, 1_025, u16::MAX]);
+        }
+        let mut micros = values::fraction(rng, 999_999);
+        if rng.chance(3) {
+            micros = values::over(rng, 999_999, 32) as u32;
+        }
+        raw_file(rng.u32(), micros, length, &name)
+    } else {
+        let mut header = good_header(rng);
+        if rng.chance(3) {
+            let width = rng.pick(&[32, 64]);
+            header.nanoseconds = values::over(rng, 999_999_999, width);
+        }
+        let mut body = good_body(rng);
+        if rng.chance(2) {
+            damage_body(rng, &mut body);
+            body.push(rng.pick(&TOKEN_NUMBERS));
+        }
+        let mut record = raw_record(&header, &body);
+        if rng.chance(4) {
+            let count = rng.pick(&[0, 25, 26, 33, 34, 65_535, 65_536, u32::MAX]);
+            set(&mut record, 1, &count.to_be_bytes());
+        }
+        if rng.chance(3) {
+            let at = record.len() - 1 - rng.below(7);
+            record[at] ^= 1 << rng.below(8);
+        }
+        record
+    };
+    if rng.chance(4) {
+        item.truncate(rng.between(1, item.len()));
+    }
+    if rng.chance(8) {
+        item[0] = rng.pick(&[0x11, 0x14, 0x74, 0x13, 0x23]);
+    }
+    item
+}

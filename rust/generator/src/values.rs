@@ -1,0 +1,140 @@
+//! Texts, byte strings and times.
+
+use crate::rng::Rng;
+
+/// Bytes that begin items and trailers.
+pub(crate) const LIKELY: [u8; 6] = [0x11, 0x13, 0x14, 0x74, 0xB1, 0x05];
+
+/// A usual length for a text or an opaque; large ones are rare.
+fn length(rng: &mut Rng) -> usize {
+    match rng.below(32) {
+        0..=3 => 0,
+        4..=6 => 1,
+        7..=24 => rng.below(24),
+        25..=29 => rng.below(120),
+        30 => rng.pick(&[15, 16, 17, 63, 64, 65, 127, 128, 129, 254, 255, 256, 257]),
+        _ if rng.chance(8) => rng.below(5_000),
+        _ => rng.below(600),
+    }
+}
+
+/// `length` bytes without a zero byte.
+pub(crate) fn letters(rng: &mut Rng, length: usize) -> Vec<u8> {
+    let mut text = rng.bytes(length);
+    match rng.below(4) {
+        0 => text.iter_mut().for_each(|b| *b = (*b).max(1)),
+        1 => text
+            .iter_mut()
+            .for_each(|b| *b = LIKELY[*b as usize % LIKELY.len()]),
+        _ => text
+            .iter_mut()
+            .for_each(|b| *b = b"/abcdefghijklmno"[*b as usize % 16]),
+    }
+    text
+}
+
+/// A text without its zero byte.
+pub(crate) fn text(rng: &mut Rng) -> Vec<u8> {
+    let length = length(rng);
+    letters(rng, length)
+}
+
+/// A file name without its zero byte.
+pub(crate) fn name(rng: &mut Rng) -> Vec<u8> {
+    let length = match rng.below(16) {
+        0 => 0,
+        1 => 1,
+        2 => rng.between(1_000, 1_023),
+        3 => 1_023,
+        _ => rng.below(60),
+    };
+    letters(rng, length)
+}
+
+/// A whole record without body, or a trailer alone.
+fn look_alike(rng: &mut Rng) -> Vec<u8> {
+    let record = [
+        0x14, 0, 0, 0, 0x1A, 0, 0x0B, 0, 0x48, 0, 0, 0, 0, 0, 1, 0, 0, 0, 2, 0x13, 0xB1, 0x05, 0,
+        0, 0, 0x1A,
+    ];
+    let mut bytes = record[rng.pick(&[0, 19])..].to_vec();
+    if rng.chance(4) {
+        let last = bytes.len() - 1;
+        bytes[last] = rng.byte();
+    }
+    bytes
+}
+
+/// Bytes of any kind; some look like records or trailers.
+pub(crate) fn opaque(rng: &mut Rng) -> Vec<u8> {
+    if rng.chance(3) {
+        let mut bytes = look_alike(rng);
+        if rng.chance(2) {
+            bytes.extend(look_alike(rng));
+        }
+        let extra = rng.below(6);
+        bytes.extend(rng.bytes(extra));
+        return bytes;
+    }
+    let length = length(rng);
+    if rng.chance(4) {
+        return vec![0; length];
+    }
+    rng.bytes(length)
+}
+
+/// Strings with their zero bytes, and how many there are.
+pub(crate) fn strings(rng: &mut Rng) -> (u32, Vec<u8>) {
+    let count = match rng.below(16) {
+        0..=2 => 0,
+        3..=5 => 1,
+        15 if rng.chance(8) => rng.below(400),
+        _ => rng.below(8),
+    };
+    let empty = rng.chance(6);
+    let mut bytes = Vec::new();
+    for _ in 0..count {
+        if !empty {
+            let length = rng.below(20);
+            bytes.extend(letters(rng, length));
+        }
+        bytes.push(0);
+    }
+    if count == 1 {
+        bytes = text(rng);
+        bytes.push(0);
+    }
+    (count as u32, bytes)
+}
+
+/// Groups.
+pub(crate) fn groups(rng: &mut Rng) -> Vec<u32> {
+    let count = match rng.below(8) {
+        0 => 0,
+        1 => 1,
+        7 if rng.chance(16) => rng.below(700),
+        _ => rng.below(17),
+    };
+    (0..count).map(|_| rng.u32()).collect()
+}
+
+/// A time fraction of at most `most`, often at a bound.
+pub(crate) fn fraction(rng: &mut Rng, most: u32) -> u32 {
+    match rng.below(6) {
+        0 => 0,
+        1 => most,
+        2 => most - 1,
+        _ => rng.below(most as usize + 1) as u32,
+    }
+}
+
+/// A time fraction over `most` of at most `width` bits.
+pub(crate) fn over(rng: &mut Rng, most: u64, width: u32) -> u64 {
+    let all = u64::MAX >> (64 - width);
+    match rng.below(5) {
+        0 | 1 => most + 1,
+        2 => all,
+        3 => most + 1 + rng.bits() % (all - most),
+        _ => rng.number(width).max(most + 1),
+    }
+}

@@ -1,0 +1,111 @@
+//! Accepted trails for timing. Each has a fixed seed.
+
+use crate::good::{record_bytes, token_bytes};
+use crate::rng::Rng;
+use crate::token_args::{good_args, TokenArgs};
+use reference::{Header, WriteToken};
+
+/// Records of one kind until the trail has `bytes` bytes or more.
+fn trail_of(seed: u64, bytes: usize, mut record: impl FnMut(&mut Rng) -> (u8, Vec<u8>)) -> Vec<u8> {
+    let mut rng = Rng::new(seed);
+    let mut trail = Vec::with_capacity(bytes.saturating_add(65_535));
+    while trail.len() < bytes {
+        let (number, body) = record(&mut rng);
+        let header = Header {
+            number,
+            version: 11,
+            event: rng.below(45_000) as u16,
+            modifier: 0,
+            seconds: rng.between(1_600_000_000, 1_900_000_000) as u64,
+            nanoseconds: rng.below(1_000_000_000) as u64,
+        };
+        trail.extend(record_bytes(&header, &body));
+    }
+    trail
+}
+
+/// A token with this varying part.
+fn token(fields: WriteToken<'static>, bytes: Vec<u8>) -> Vec<u8> {
+    token_bytes(&TokenArgs {
+        fields,
+        bytes,
+        groups: Vec::new(),
+    })
+}
+
+/// Printable bytes.
+fn printable(rng: &mut Rng, length: usize) -> Vec<u8> {
+    let mut text = rng.bytes(length);
+    for byte in &mut text {
+        *byte = b"abcdefghijklmnopqrstuvwxyz/._-0123456789"[*byte as usize % 40];
+    }
+    text
+}
+
+/// Small records, 26 to 60 bytes each, of both headers.
+pub fn small_records(bytes: usize) -> Vec<u8> {
+    trail_of(1, bytes, |rng| {
+        let number = rng.pick(&[0x14, 0x14, 0x14, 0x74]);
+        let mut body = Vec::new();
+        for _ in 0..rng.below(4) {
+            let new = match rng.below(6) {
+                0 => {
+                    let length = rng.below(20);
+                    let text = printable(rng, length);
+                    token(WriteToken::Text { text: &[] }, text)
+                }
+                kind => token_bytes(&good_args(rng, [0x27, 0x27, 0x2F, 0x2C, 0x52, 0x2A][kind])),
+            };
+            if body.len() + new.len() <= 26 {
+                body.extend(new);
+            }
+        }
+        (number, body)
+    })
+}
+
+/// Usual records, 150 to 300 bytes each: subject32, path, text, return32.
+pub fn usual_records(bytes: usize) -> Vec<u8> {
+    trail_of(2, bytes, |rng| {
+        let path_length = rng.between(29, 119);
+        let text_length = rng.between(44, 104);
+        let mut path = printable(rng, path_length);
+        path[0] = b'/';
+        let text = printable(rng, text_length);
+        let mut body = token_bytes(&good_args(rng, 0x24));
+        body.extend(token(WriteToken::Path { text: &[] }, path));
+        body.extend(token(WriteToken::Text { text: &[] }, text));
+        body.extend(token_bytes(&good_args(rng, 0x27)));
+        (0x14, body)
+    })
+}
+
+/// Records with one exec_env token of about 60,000 bytes, its strings 10 to
+/// 80 bytes long.
+pub fn large_exec(bytes: usize) -> Vec<u8> {
+    trail_of(3, bytes, |rng| {
+        let mut strings = Vec::new();
+        let mut count = 0;
+        while strings.len() < 60_000 {
+            let length = rng.between(10, 80);
+            let mut text = printable(rng, length);
+            text[rng.between(3, 8)] = b'=';
+            strings.extend(text);
+            strings.push(0);
+            count += 1;
+        }
+        let fields = WriteToken::ExecEnv {
+            count,
+            strings: &[],
+        };
+        (0x14, token(fields, strings))
+    })
+}
+
+/// Records with one opaque token of 60,000 bytes.
+pub fn large_opaque(bytes: usize) -> Vec<u8> {
+    trail_of(4, bytes, |rng| {
+        let bytes = rng.bytes(60_000);
+        (0x14, token(WriteToken::Opaque { bytes: &[] }, bytes))
+    })
+}

@@ -1,0 +1,299 @@
+//! The cases of paper 01, section 'Cases'.
+
+use reference::*;
+
+/// Bytes from hexadecimal digits; gaps are ignored.
+fn hex(digits: &str) -> Vec<u8> {
+    let digits: Vec<u8> = digits
+        .bytes()
+        .filter(|b| !b.is_ascii_whitespace())
+        .collect();
+    digits
+        .chunks(2)
+        .map(|pair| u8::from_str_radix(std::str::from_utf8(pair).unwrap(), 16).unwrap())
+        .collect()
+}
+
+/// A record as in case 9 with this body and its right size.
+fn case_nine(body: &str) -> Vec<u8> {
+    let body = hex(body);
+    let count = format!("{:08X}", 26 + body.len());
+    let mut record = hex(&format!("14 {count} 000B 0048 0000 00000001 00000002"));
+    record.extend_from_slice(&body);
+    record.extend_from_slice(&hex(&format!("13 B105 {count}")));
+    record
+}
+
+fn refused(trail: &[u8], place: usize) -> (u8, usize, usize) {
+    match item_at(trail, place) {
+        Answer::Refused(r) => (r.number, r.place, r.need),
+        other => panic!("not refused: {other:?}"),
+    }
+}
+
+/// Size, event and number of tokens of the record at the start.
+fn record(trail: &[u8]) -> (usize, u16, usize) {
+    match item_at(trail, 0) {
+        Answer::Item(Item::Record {
+            size,
+            header,
+            tokens,
+            ..
+        }) => (size, header.event, tokens),
+        other => panic!("no record: {other:?}"),
+    }
+}
+
+#[test]
+fn case_1_empty_is_end() {
+    assert_eq!(item_at(&[], 0), Answer::End);
+}
+
+#[test]
+fn case_2_place_beyond() {
+    assert_eq!(refused(&[], 1), (2, 1, 0));
+    assert_eq!(refused(&[], usize::MAX), (2, usize::MAX, 0));
+}
+
+#[test]
+fn case_3_one_header_byte() {
+    assert_eq!(refused(&hex("14"), 0), (1, 0, 5));
+    assert_eq!(refused(&hex("74"), 0), (1, 0, 5));
+    assert_eq!(refused(&hex("11"), 0), (1, 0, 11));
+}
+
+#[test]
+fn case_4_trailer_is_no_item() {
+    assert_eq!(refused(&hex("13"), 0), (3, 0, 0));
+}
+
+#[test]
+fn cases_5_to_8_bounds_of_the_count() {
+    assert_eq!(refused(&hex("14 00000019"), 0), (4, 0, 0));
+    assert_eq!(refused(&hex("14 0000001A"), 0), (1, 0, 26));
+    assert_eq!(refused(&hex("14 0000FFFF"), 0), (1, 0, 65_535));
+    assert_eq!(refused(&hex("14 00010000"), 0), (4, 0, 0));
+    assert_eq!(refused(&hex("74 00000021"), 0), (4, 0, 0));
+    assert_eq!(refused(&hex("74 00000022"), 0), (1, 0, 34));
+    assert_eq!(refused(&hex("74 FFFFFFFF"), 0), (4, 0, 0));
+}
+
+#[test]
+fn case_9_record_without_body() {
+    let trail = hex("14 0000001A 000B 0048 0000 00000001 00000002 13 B105 0000001A");
+    assert_eq!(trail, case_nine(""));
+    let header = Header {
+        number: 0x14,
+        version: 11,
+        event: 72,
+        modifier: 0,
+        seconds: 1,
+        nanoseconds: 2,
+    };
+    let item = Item::Record {
+        size: 26,
+        header,
+        body: &[],
+        tokens: 0,
+    };
+    assert_eq!(item_at(&trail, 0), Answer::Item(item));
+}
+
+#[test]
+fn case_10_one_token() {
+    let trail = case_nine("27 00 00000000");
+    assert_eq!(trail.len(), 32);
+    assert_eq!(record(&trail), (32, 72, 1));
+}
+
+#[test]
+fn case_11_wrong_trailer() {
+    let mut trail = case_nine("");
+    trail[25] = 0x1B;
+    assert_eq!(refused(&trail, 0), (5, 0, 0));
+    trail[15..19].copy_from_slice(&1_000_000_000u32.to_be_bytes());
+    assert_eq!(refused(&trail, 0), (5, 0, 0));
+    trail[25] = 0x1A;
+    assert_eq!(refused(&trail, 0), (9, 0, 0));
+    trail[15..19].copy_from_slice(&999_999_999u32.to_be_bytes());
+    assert_eq!(record(&trail), (26, 72, 0));
+}
+
+#[test]
+fn case_12_file() {
+    let trail = hex("11 00000005 00000007 0002 61 00");
+    let item = Item::File {
+        size: 13,
+        seconds: 5,
+        microseconds: 7,
+        name: b"a",
+    };
+    assert_eq!(item_at(&trail, 0), Answer::Item(item));
+}
+
+#[test]
+fn case_13_early_zero_in_the_name() {
+    let trail = hex("11 00000005 00000007 0003 00 61 00");
+    assert_eq!(refused(&trail, 0), (8, 0, 0));
+}
+
+#[test]
+fn case_14_token_leaves_the_body() {
+    assert_eq!(refused(&case_nine("2C 00"), 0), (7, 19, 0));
+}
+
+#[test]
+fn case_15_no_token_number() {
+    assert_eq!(refused(&case_nine("00"), 0), (6, 19, 0));
+    for number in ["11", "13", "14", "74"] {
+        assert_eq!(refused(&case_nine(number), 0), (6, 19, 0));
+    }
+}
+
+#[test]
+fn case_16_trailer_inside_an_opaque() {
+    let trail = case_nine("29 0007 13 B105 0000001A");
+    assert_eq!(trail.len(), 36);
+    assert_eq!(record(&trail), (36, 72, 1));
+}
+
+#[test]
+fn case_17_listing() {
+    let mut trail = hex("11 00000005 00000007 0002 61 00");
+    trail.extend_from_slice(&case_nine(""));
+    let expected = b"bsmlist\t1\nF\t0\t13\t5\t7\nR\t13\t26\t72\t0\t1\t2\t0\nE\t1\t1\n";
+    assert_eq!(listing(&trail), expected);
+    assert_eq!(program_output(&trail), expected);
+}
+
+#[test]
+fn places_are_those_of_the_buffer() {
+    let mut trail = hex("11 00000005 00000007 0002 61 00");
+    trail.extend_from_slice(&case_nine("27 00 00000000 28 0001 61"));
+    assert_eq!(refused(&trail, 13), (8, 13 + 19 + 6, 0));
+    assert_eq!(refused(&trail, 12), (3, 12, 0));
+    assert_eq!(item_at(&trail, trail.len()), Answer::End);
+    let end = trail.len() + 1;
+    assert_eq!(refused(&trail, end), (2, end, 0));
+}
+
+#[test]
+fn file_order() {
+    let fixed = |micros: u32, length: u16| {
+        let mut token = hex("11 00000005");
+        token.extend_from_slice(&micros.to_be_bytes());
+        token.extend_from_slice(&length.to_be_bytes());
+        token
+    };
+    let whole = fixed(7, 2);
+    for cut in 1..11 {
+        assert_eq!(refused(&whole[..cut], 0), (1, 0, 11));
+    }
+    assert_eq!(refused(&fixed(1_000_000, 0), 0), (9, 0, 0));
+    assert_eq!(refused(&fixed(999_999, 0), 0), (8, 0, 0));
+    assert_eq!(refused(&fixed(999_999, 1_025), 0), (8, 0, 0));
+    assert_eq!(refused(&fixed(999_999, 1_024), 0), (1, 0, 1_035));
+    let mut unended = fixed(0, 2);
+    unended.push(b'a');
+    assert_eq!(refused(&unended, 0), (1, 0, 13));
+    unended.push(b'b');
+    assert_eq!(refused(&unended, 0), (8, 0, 0));
+}
+
+#[test]
+fn runs_from_states() {
+    let mut trail = hex("11 00000005 00000007 0002 61 00");
+    trail.extend_from_slice(&case_nine(""));
+    trail.extend_from_slice(&case_nine("")[..25]);
+    let fresh = run(&trail, State::default());
+    let state = State {
+        place: 39,
+        records: 1,
+        files: 1,
+    };
+    let refusal = Some(Refusal {
+        number: 1,
+        place: 39,
+        need: 26,
+    });
+    assert_eq!(fresh, Run { state, refusal });
+    let (items, same) = reading(&trail, State::default());
+    assert_eq!(same, fresh);
+    assert_eq!(items.iter().map(|i| i.0).collect::<Vec<_>>(), [0, 13]);
+
+    // The refusal's place may lie behind the state's.
+    let bad = case_nine("00");
+    let refusal = Some(Refusal {
+        number: 6,
+        place: 19,
+        need: 0,
+    });
+    let state = State::default();
+    assert_eq!(run(&bad, state), Run { state, refusal });
+
+    for (place, records, files) in [
+        (66, 0, 0),
+        (13, 14, 0),
+        (13, 7, 7),
+        (0, 0, 1),
+        (usize::MAX, usize::MAX, 1),
+        (0, usize::MAX, usize::MAX),
+        (usize::MAX, 0, 0),
+    ] {
+        let state = State {
+            place,
+            records,
+            files,
+        };
+        let refusal = Some(Refusal {
+            number: 2,
+            place,
+            need: 0,
+        });
+        assert_eq!(run(&trail, state), Run { state, refusal });
+        assert_eq!(reading(&trail, state), (Vec::new(), Run { state, refusal }));
+    }
+    let state = State {
+        place: 13,
+        records: 13,
+        files: 0,
+    };
+    assert_eq!(run(&trail, state).state.records, 14);
+}
+
+#[test]
+fn growing_trails_give_the_same_end() {
+    let mut trail = hex("11 00000005 00000007 0002 61 00");
+    trail.extend_from_slice(&case_nine("23 0003 2F 61 00 3C 00000002 61 00 00"));
+    trail.extend_from_slice(&case_nine("00"));
+    let (all, whole) = reading(&trail, State::default());
+    for first in 0..=trail.len() {
+        for second in first..=trail.len() {
+            let (mut items, a) = reading(&trail[..first], State::default());
+            let (more, b) = reading(&trail[..second], a.state);
+            let (last, c) = reading(&trail, b.state);
+            items.extend(more);
+            items.extend(last);
+            assert_eq!((c, &items), (whole, &all));
+        }
+    }
+}
+
+#[test]
+fn short_stays_until_need_and_comes_at_most_twice() {
+    for trail in [
+        hex("11 00000005 00000007 0004 61 62 63 00"),
+        case_nine("23 0003 2F 61 00"),
+    ] {
+        let mut shorts = Vec::new();
+        for cut in 1..trail.len() {
+            let (number, place, need) = refused(&trail[..cut], 0);
+            assert_eq!((number, place), (1, 0));
+            assert!(cut < need);
+            shorts.push(need);
+        }
+        shorts.dedup();
+        assert_eq!(shorts.len(), 2);
+        assert_eq!(shorts[1], trail.len());
+    }
+}
