@@ -19,7 +19,7 @@ pub fn load<'a>(name: &'static str, trail: &'a [u8]) -> Workload<'a> {
     Workload {
         name,
         bytes: trail.len(),
-        things: records(trail),
+        count: records(trail),
         source: trail,
         proved: Box::new(move || {
             let mut sum = 0;

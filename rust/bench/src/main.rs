@@ -24,6 +24,18 @@ const ROUNDS: usize = 25;
 /// Bytes of each trail, about.
 const BYTES: usize = 4 << 20;
 
+/// What the table shows.
+const ABOUT: &str = "\
+Proved library, reference and plain copy take turns in each round, in one
+process and over the same bytes. Both sides gave the same results before
+timing. Buffers were not cleared inside a timed part: every one was written
+once before (pre-touched).
+
+  us     best and median time of one pass, in microseconds
+  ratio  time of the proved library / time of the reference
+  GB/s   from the best time: bytes read, for 'write' bytes written;
+         copy is copy_from_slice of the same trail, as the limit";
+
 fn main() -> ExitCode {
     let rounds = match rounds(env::args().skip(1)) {
         Ok(rounds) => rounds,
@@ -56,18 +68,10 @@ fn main() -> ExitCode {
         list::load("list, usual records", &usual),
     ];
 
-    println!("{rounds} rounds; in each the proved library, the reference and a copy take turns.");
-    println!("Both sides gave the same results before timing. Every buffer was written once");
-    println!("before timing (pre-touched): no page is cleared inside a timed part.");
-    println!("ratio: time of the proved library / time of the reference; GB/s from the best");
-    println!(
-        "times, over the bytes read (write: written); copy: copy_from_slice of the same bytes."
-    );
-    println!();
+    println!("{ABOUT}\n\n{rounds} rounds\n");
     let mut table = Table::new();
     for load in loads {
-        let (name, bytes, things) = (load.name, load.bytes, load.things);
-        table.row(name, bytes, things, &measure(load, rounds));
+        table.row(&measure(load, rounds));
     }
     print!("{table}");
     ExitCode::SUCCESS

@@ -18,7 +18,7 @@ pub fn run<'a>(name: &'static str, trail: &'a [u8]) -> Workload<'a> {
     Workload {
         name,
         bytes: trail.len(),
-        things: records(trail),
+        count: records(trail),
         source: trail,
         proved: Box::new(proved),
         plain: Box::new(plain),
@@ -66,7 +66,7 @@ pub fn items<'a>(name: &'static str, trail: &'a [u8]) -> Workload<'a> {
     Workload {
         name,
         bytes: trail.len(),
-        things: records(trail),
+        count: records(trail),
         source: trail,
         proved: Box::new(proved),
         plain: Box::new(plain),

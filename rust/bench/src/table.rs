@@ -5,14 +5,14 @@ use std::fmt;
 
 const HEADS: [&str; 12] = [
     "workload",
-    "things",
+    "count",
     "proved us",
     "(median)",
     "reference us",
     "(median)",
     "ratio",
     "(median)",
-    "ns/thing",
+    "ns each",
     "proved GB/s",
     "reference GB/s",
     "copy GB/s",
@@ -31,28 +31,32 @@ impl Table {
         }
     }
 
-    /// Adds a workload: its bytes, its items, tokens or records, its times.
-    pub fn row(&mut self, name: &str, bytes: usize, things: usize, times: &Measured) {
+    /// Adds a workload.
+    pub fn row(&mut self, measured: &Measured) {
         let Measured {
+            name,
+            bytes,
+            copied,
+            count,
             proved,
             plain,
             copy,
-        } = times;
+        } = measured;
         let micros = |seconds: f64| format!("{:.2}", seconds * 1e6);
-        let rate = |seconds: f64| format!("{:.2}", bytes as f64 / seconds / 1e9);
+        let rate = |bytes: &usize, seconds: f64| format!("{:.2}", *bytes as f64 / seconds / 1e9);
         self.rows.push([
             name.to_string(),
-            things.to_string(),
+            count.to_string(),
             micros(proved.best),
             micros(proved.median),
             micros(plain.best),
             micros(plain.median),
             format!("{:.2}", proved.best / plain.best),
             format!("{:.2}", proved.median / plain.median),
-            format!("{:.1}", proved.best / things as f64 * 1e9),
-            rate(proved.best),
-            rate(plain.best),
-            rate(copy.best),
+            format!("{:.1}", proved.best / *count as f64 * 1e9),
+            rate(bytes, proved.best),
+            rate(bytes, plain.best),
+            rate(copied, copy.best),
         ]);
     }
 }

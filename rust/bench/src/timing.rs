@@ -15,8 +15,16 @@ pub struct Times {
     pub median: f64,
 }
 
-/// The times of a workload.
+/// A workload and its times.
 pub struct Measured {
+    /// The workload's name.
+    pub name: &'static str,
+    /// Bytes that a pass reads or writes.
+    pub bytes: usize,
+    /// Bytes that the copy copies.
+    pub copied: usize,
+    /// Items, tokens or records of a pass.
+    pub count: usize,
     /// The proved library.
     pub proved: Times,
     /// The reference.
@@ -30,10 +38,11 @@ pub struct Measured {
 pub fn measure(load: Workload<'_>, rounds: usize) -> Measured {
     let Workload {
         name,
+        bytes,
+        count,
         source,
         mut proved,
         mut plain,
-        ..
     } = load;
     let mut target = vec![1; source.len()];
     let mut copy = || {
@@ -42,9 +51,8 @@ pub fn measure(load: Workload<'_>, rounds: usize) -> Measured {
     };
     // Also warms both sides up.
     assert_eq!(proved(), plain(), "{name}: the two sides differ");
-    let passes = [passes(&mut proved), passes(&mut plain)];
-    let turns = passes[0].max(passes[1]);
-    let copies = self::passes(&mut copy);
+    let turns = passes(&mut proved).max(passes(&mut plain));
+    let copies = passes(&mut copy);
 
     let (mut a, mut b, mut c) = (Vec::new(), Vec::new(), Vec::new());
     for round in 0..rounds {
@@ -59,6 +67,10 @@ pub fn measure(load: Workload<'_>, rounds: usize) -> Measured {
         }
     }
     Measured {
+        name,
+        bytes,
+        copied: source.len(),
+        count,
         proved: times(a),
         plain: times(b),
         copy: times(c),

@@ -8,7 +8,7 @@ pub fn load<'a>(name: &'static str, trail: &'a [u8]) -> Workload<'a> {
     let bodies = bodies(trail);
     let others = bodies.clone();
     let bytes = bodies.iter().map(|body| body.len()).sum();
-    let things = bodies
+    let count = bodies
         .iter()
         .map(|body| reference::walk_body(body).unwrap_or(0))
         .sum();
@@ -41,7 +41,7 @@ pub fn load<'a>(name: &'static str, trail: &'a [u8]) -> Workload<'a> {
     Workload {
         name,
         bytes,
-        things,
+        count,
         source: trail,
         proved: Box::new(proved),
         plain: Box::new(plain),

@@ -8,7 +8,7 @@ pub struct Workload<'a> {
     /// Bytes that a pass reads or writes.
     pub bytes: usize,
     /// Items, tokens or records that it goes over.
-    pub things: usize,
+    pub count: usize,
     /// The bytes to copy for comparison.
     pub source: &'a [u8],
     /// A pass with the proved library.

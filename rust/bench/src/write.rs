@@ -24,7 +24,7 @@ pub fn load<'a>(name: &'static str, trail: &'a [u8]) -> Workload<'a> {
     let ours = proved_records(trail);
     let theirs = plain_records(trail);
     assert_eq!(ours.len(), theirs.len());
-    let things = ours.len();
+    let count = ours.len();
     let mut buffer = vec![1; BODY + trail.len()];
     let mut other = buffer.clone();
     let proved = move || {
@@ -56,7 +56,7 @@ pub fn load<'a>(name: &'static str, trail: &'a [u8]) -> Workload<'a> {
     let mut load = Workload {
         name,
         bytes: trail.len(),
-        things,
+        count,
         source: trail,
         proved: Box::new(proved),
         plain: Box::new(plain),

@@ -79,6 +79,12 @@ impl fmt::Display for Reason {
 }
 
 /// An answer that is no result.
+///
+/// ```
+/// let short = bsm::item_at(&[0x14], 0).unwrap_err();
+/// assert_eq!(short.reason, bsm::Reason::Short);
+/// assert_eq!(short.to_string(), "refusal 1 at 0: short, needs 5 bytes");
+/// ```
 #[derive(Clone, Copy, Debug, PartialEq, Eq, Hash)]
 pub struct Refusal {
     /// Why.

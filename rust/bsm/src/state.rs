@@ -35,8 +35,8 @@ pub enum Step<'a> {
         /// How many bytes must stand there.
         need: usize,
     },
-    /// A refusal other than short, which no longer trail takes back, except
-    /// for [`Reason::Place`].
+    /// A refusal other than short. Longer trails are refused in the same
+    /// way, except where the reason is [`Reason::Place`].
     Refused(Refusal),
 }
 

@@ -221,3 +221,32 @@ fn times_of_a_record() {
         refused(Reason::NotABodyToken)
     );
 }
+
+/// Empty slices, whose pointers stand for no memory but are not null.
+#[test]
+fn empty_buffers() {
+    let fresh = bsm::State::default();
+    let (bytes, groups): (&[u8], &[u32]) = (&[], &[]);
+    assert_eq!(bsm::item_at(bytes, 0), Ok(None));
+    assert_eq!(bsm::run(bytes, fresh).state, fresh);
+    assert_eq!(bsm::next(bytes, fresh), (bsm::Step::End, fresh));
+    assert_eq!(
+        (bsm::body_at(bytes, 0), bsm::name_at(bytes, 0)),
+        (None, None)
+    );
+    assert_eq!(bsm::token_at(bytes, 0), Ok(None));
+    assert_eq!(bsm::text_at(bytes, 0), None);
+    assert_eq!(bsm::walk_body(bytes), Ok(0));
+
+    accepted(&Token::Opaque { bytes }, 3);
+    accepted(&Token::NewGroups { groups }, 3);
+    accepted(&Token::Text { text: bytes }, 4);
+    accepted(&Token::ExecArgs(Strings { count: 0, bytes }), 5);
+    let none: &mut [u8] = &mut [];
+    assert_eq!(bsm::write_file(none, 0, 0, bytes), refused(Reason::NoRoom));
+    assert_eq!(bsm::first_line(none), refused(Reason::NoRoom));
+    assert_eq!(bsm::item_line(none, bytes, 0), Ok(0));
+    assert_eq!(bsm::last_line(none, bytes, fresh), refused(Reason::NoRoom));
+    let listed = bsm::list(none, bytes, bsm::Cursor::First);
+    assert_eq!((listed.written, listed.cursor), (0, bsm::Cursor::First));
+}

@@ -3,7 +3,7 @@
 use bsm::sys::*;
 use compare::*;
 use generator::*;
-use reference::{Answer, Item, Party, Refusal, Token, TokenAnswer};
+use reference::{Answer, Item, Party, Refusal, State, Token, TokenAnswer};
 
 fn raw_item(answer: Answer<'_>) -> bsm_item {
     match answer {
@@ -47,6 +47,30 @@ fn raw_item(answer: Answer<'_>) -> bsm_item {
             need: refusal.need as u64,
             ..bsm_item::default()
         },
+    }
+}
+
+/// One step from a state.
+fn raw_step(trail: &[u8], state: State) -> bsm_step {
+    let sum = state.records.checked_add(state.files);
+    let answer = match sum {
+        Some(sum) if sum <= state.place => reference::item_at(trail, state.place),
+        _ => Answer::Refused(Refusal {
+            number: 2,
+            place: state.place,
+            need: 0,
+        }),
+    };
+    let (size, record, file) = match answer {
+        Answer::Item(item @ Item::Record { .. }) => (item.size(), 1, 0),
+        Answer::Item(item @ Item::File { .. }) => (item.size(), 0, 1),
+        _ => (0, 0, 0),
+    };
+    bsm_step {
+        item: raw_item(answer),
+        place: (state.place + size) as u64,
+        records: (state.records + record) as u64,
+        files: (state.files + file) as u64,
     }
 }
 
@@ -222,28 +246,11 @@ fn items_field_by_field() {
         // SAFETY: as above.
         let found = unsafe { bsm_run(bytes, length, state.place, records, files) };
         assert_eq!(found, expected);
-        // Where a run stops a step finds the same and goes nowhere.
-        let last = run.state;
-        // SAFETY: as above.
-        let found = unsafe { bsm_next(bytes, length, last.place, last.records, last.files) };
-        let kind = if run.refusal.is_some() {
-            BSM_REFUSED
-        } else {
-            BSM_END
-        };
-        let expected = bsm_step {
-            item: bsm_item {
-                kind,
-                number: refusal.number,
-                place: refusal.place,
-                need: refusal.need,
-                ..bsm_item::default()
-            },
-            place: last.place as u64,
-            records: last.records as u64,
-            files: last.files as u64,
-        };
-        assert_eq!(found, expected);
+        for state in [state, run.state] {
+            // SAFETY: as above.
+            let found = unsafe { bsm_next(bytes, length, state.place, state.records, state.files) };
+            assert_eq!(found, raw_step(&trail, state));
+        }
     }
     tally.finish("items field by field", FACE / 2, 1..=9);
 }

@@ -76,7 +76,10 @@ impl<'a> Growing<'a> {
                     assert_eq!((place, found), (at, item(whole)));
                     self.iterated += 1;
                 }
-                Err(refusal) => last = Some(refusal),
+                Err(refusal) => {
+                    last = Some(refusal);
+                    break;
+                }
             }
         }
         self.items = items.state();
