@@ -5,3 +5,4 @@ pub mod Places
 pub mod States
 pub mod TokenNumbers
 pub mod Listings
+pub mod Tells

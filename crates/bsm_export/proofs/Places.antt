@@ -23,7 +23,7 @@ use Rattle.bsm_item.specs.declared.item.Item.the-variants.{File, Record}
 use Rattle.bsm_item.specs.declared.item.ItemRead.{ItemRead}
 use Rattle.bsm_item.specs.declared.item.ItemRead.the-variants.{Found as FoundItem, End, Refused}
 use Rattle.bsm_item.proofs.Longer.{item-long}
-use Rattle.bsm_export.specs.Items.{isAt, Stands, bodyOf, bodyStart, nameOf, nameStart}
+use Rattle.bsm_export.specs.Items.{FoundAt, Stands, bodyOf, bodyStart, nameOf, nameStart}
 use Rattle.bsm_export.specs.Tokens.{stringStart}
 use Rattle.bsm_export.specs.declared.item.BsmPart.{BsmPart}
 use Rattle.bsm_export.proofs.Refusals.{by-numbers}
@@ -41,15 +41,15 @@ nowhere s e = rw e (record { start = refl; long = refl; bytes = refl })
 
 -- ---- the part of an item
 
-size-within : (s : List ℕ) (p : ℕ) (i : Found) → isAt s p (itemMeant s p i) → p + sizeFound i ≤ length s
+size-within : (s : List ℕ) (p : ℕ) (i : Found) → FoundAt s p (itemMeant s p i) → p + sizeFound i ≤ length s
 size-within s p (File n x y) e = item-long s p (itemMeant s p (File n x y)) e .1
 size-within s p (Record n d c) e = item-long s p (itemMeant s p (Record n d c)) e .1
 
 -- its place is in the trail
-pub place-within : (s : List ℕ) (p : ℕ) (i : Found) → isAt s p (itemMeant s p i) → p ≤ length s
+pub place-within : (s : List ℕ) (p : ℕ) (i : Found) → FoundAt s p (itemMeant s p i) → p ≤ length s
 place-within s p i e = omega (arith, size-within s p i e)
 
-pub file-part : (s : List ℕ) (p n x y : ℕ) {i : Found} {a b : ℕ} {q : BsmPart} → isAt s p (itemMeant s p i) → i ≡ File n x y → a ≡ n - 11 → b ≡ a - 1 → q ≡ part (p + 11) b
+pub file-part : (s : List ℕ) (p n x y : ℕ) {i : Found} {a b : ℕ} {q : BsmPart} → FoundAt s p (itemMeant s p i) → i ≡ File n x y → a ≡ n - 11 → b ≡ a - 1 → q ≡ part (p + 11) b
     → Stands s (partOf (itemMeant s p i)) (p + partStart (itemMeant s p i)) q
 unfolding rows rowIn rowOf before behind layout fixed sum
 file-part s p n x y {i} {a} {b} {q} e f ha hb g =
@@ -57,7 +57,7 @@ file-part s p n x y {i} {a} {b} {q} e f ha hb g =
     let l : p + n ≤ length s = size-within s p (File n x y) (rw f at e) in
     rw f (stands s (p + 11) (n - 11 - 1) (omega arith) (g ∙ ap (part (p + 11)) k))
 
-pub record-part : (s : List ℕ) (p n : ℕ) (d : Header) (c : ℕ) {i : Found} {h a b : ℕ} {q : BsmPart} → isAt s p (itemMeant s p i) → i ≡ Record n d c → h ≡ headSize d → a ≡ n - 7
+pub record-part : (s : List ℕ) (p n : ℕ) (d : Header) (c : ℕ) {i : Found} {h a b : ℕ} {q : BsmPart} → FoundAt s p (itemMeant s p i) → i ≡ Record n d c → h ≡ headSize d → a ≡ n - 7
     → b ≡ a - h → q ≡ part (p + h) b → Stands s (partOf (itemMeant s p i)) (p + partStart (itemMeant s p i)) q
 unfolding headMeant
 record-part s p n d c {i} {h} {a} {b} {q} e f z ha hb g =
@@ -68,7 +68,7 @@ record-part s p n d c {i} {h} {a} {b} {q} e f z ha hb g =
 -- ---- at a place
 
 module _ (s : List ℕ) (p : ℕ) (r : ItemRead) (e : readMeant s p r ≡ itemAt s p) where
-  pub found-at : (i : Found) → r ≡ FoundItem i → isAt s p (itemMeant s p i)
+  pub found-at : (i : Found) → r ≡ FoundItem i → FoundAt s p (itemMeant s p i)
   found-at i f = sym e ∙ ap (readMeant s p) f
 
   -- a part, by its bytes and its start, for each answer

@@ -4,7 +4,7 @@ ghost use mathlib.Core.List.{List, [], _∷_};
 ghost use Prim.Native.Nat.{ℕ, _+_};
 ghost use Rattle.bsm_item.specs.Item.{itemAt, partOf, partStart};
 ghost use Rattle.bsm_item.specs.Meaning.{itemMeant, readMeant};
-ghost use Rattle.bsm_export.specs.Items.{foundItem, noItem, flatFound, flatItem, isAt, Stands, bodyOf, bodyStart, nameOf, nameStart};
+ghost use Rattle.bsm_export.specs.Items.{foundItem, noItem, flatFound, flatItem, FoundAt, Stands, bodyOf, bodyStart, nameOf, nameStart};
 use crate::answer::no_refusal;
 use bsm_item::item::Header;
 use bsm_item::item::Item;
@@ -139,7 +139,7 @@ pub(crate) fn part(start: usize, n: usize) -> BsmPart
 
 // The body of the record or the name of the file token that stands at a place.
 fn part_of(trail: &[u8], place: usize, item: Item) -> BsmPart
-    requires { ⌜ isAt (now trail) place (itemMeant (now trail) place item) ⌝ }
+    requires { ⌜ FoundAt (now trail) place (itemMeant (now trail) place item) ⌝ }
     ensures { λ r. ⌜ Stands (now (trail .entry)) (partOf (itemMeant (now (trail .entry)) place item)) (place + partStart (itemMeant (now (trail .entry)) place item)) r ⌝ }
 {
     match item {

@@ -1,0 +1,204 @@
+-- A refusal's number is never 0, no field of a token is left out, and stages are read back. Assumes nothing.
+use mathlib.Core.Path.{_≡_, refl, sym, ap, _∙_}
+use mathlib.Core.Bool.{Bool, true, false}
+use mathlib.Core.Logic.{_≢_, inl, inr, ⊎-elim}
+use mathlib.Core.List.{List, [], _∷_}
+use Prim.Native.Nat.{ℕ, suc, _+_, _≤_, _<_}
+use native.Mathlib.Omega.{arith}
+use lib.Dec.{leb, ltb}
+use lib.ListN.{length, drop}
+use borrow.Author.Tests.{leb-true}
+use Rattle.bsm_token.specs.Number.{ifElse, field, fields, sum}
+use Rattle.bsm_token.specs.Layout.{Class, unknown, file, header, trailer, plain as plainClass, text, bytes, groups, strings, rows, rowOf, behind}
+use Rattle.bsm_token.specs.Token.{Fault, notBody, pastEnd, badText, faultNumber, Token, Extent, tokenOf, extentOf, TokenAnswer, token, end as tokenEnd, refusal as tokenRefusal, tokenAt, Walk, tokens, refused as bad, walk}
+use Rattle.bsm_token.specs.declared.refusal.Refusal.{Refusal}
+use Rattle.bsm_token.proofs.Rows.{every-row}
+use Rattle.bsm_token.proofs.Reader.{token-at, token-numbers}
+use Rattle.bsm_item.specs.Item.{fileItem, recordItem, Answer, item, end, short, refusal, itemAt}
+use Rattle.bsm_item.specs.Reading.{State, Reading, answerAt, with, plain, stopOf}
+use Rattle.bsm_item.proofs.Longer.{refusal-numbers}
+use Rattle.bsm_item.proofs.Runs.{Stops, Reads, stops, goes, plain-reads}
+use Rattle.bsm_write.specs.Write.{Plan, code, Outcome, wrote, refused, answerIn, Written, tokenPlan}
+use Rattle.bsm_write.specs.Items.{filePlan, recordPlan}
+use Rattle.bsm_write.specs.Demands.{Among, Listed}
+use Rattle.bsm_write.specs.declared.answer.WriteAnswer.the-variants.{Refused}
+use Rattle.bsm_write.proofs.Answers.{token-refusals, file-refusals, record-refusals}
+use Rattle.bsm_listing.specs.Line.{itemLine}
+use Rattle.bsm_listing.specs.Listing.{Cursor, first, at, done}
+use Rattle.bsm_export.specs.Items.{flatFound, flatItem, stateAt, stoppedBy, flatOutcome}
+use Rattle.bsm_export.specs.Tokens.{flatToken}
+use Rattle.bsm_export.specs.Written.{flatWritten, flatWalk}
+use Rattle.bsm_export.specs.Lines.{lineAnswer, ItemLined, cursorFrom, flatListing}
+use Rattle.bsm_export.specs.Told.{Tells, NumbersTell}
+use Rattle.bsm_export.specs.declared.answer.BsmWritten.{BsmWritten}
+
+-- ---- reading
+
+item-number : (s : List ℕ) (p e q n : ℕ) → itemAt s p ≡ refusal e q n → e ≢ 0
+item-number s p e q n f z = ⊎-elim (λ w. omega (arith, w .0)) (λ w. omega (arith, w .0)) (refusal-numbers s p e q n f .listed)
+
+items-tell : (s : List ℕ) (p : ℕ) → (flatItem (itemAt s p)) .number ≡ 0 → (flatItem (itemAt s p)) .kind ≢ 3
+unfolding flatItem flatFound
+items-tell s p = go (itemAt s p) refl
+  where
+    go : (a : Answer) → itemAt s p ≡ a → (flatItem a) .number ≡ 0 → (flatItem a) .kind ≢ 3
+    go (item (fileItem n vs name)) e z k = omega arith
+    go (item (recordItem n h b c)) e z k = omega arith
+    go end e z k = omega arith
+    go (short q n) e z k = omega arith
+    go (refusal j q n) e z k = item-number s p j q n e z
+
+tokens-tell : (s : List ℕ) (p : ℕ) → (flatToken (tokenAt s p)) .number ≡ 0 → (flatToken (tokenAt s p)) .kind ≢ 3
+unfolding flatToken
+tokens-tell s p = go (tokenAt s p) refl
+  where
+    go : (a : TokenAnswer) → tokenAt s p ≡ a → (flatToken a) .number ≡ 0 → (flatToken a) .kind ≢ 3
+    go (token t x) e z k = omega arith
+    go tokenEnd e z k = omega arith
+    go (tokenRefusal j q n) e z k = ⊎-elim (λ w. omega (arith, w .0)) (λ w. omega (arith, w .0)) (token-numbers s p j q n e .listed)
+
+-- ten values and one count are all that a layout has
+widths-most : (n : ℕ) → length (rowOf n .widths) ≤ 10
+unfolding rows
+widths-most n = leb-true (length (rowOf n .widths)) 10 (every-row (λ r. leb (length (r .widths)) 10) n refl refl)
+
+counts-most : (c : Class) → length (behind c) ≤ 1
+unfolding behind
+counts-most unknown = omega arith
+counts-most file = omega arith
+counts-most header = omega arith
+counts-most trailer = omega arith
+counts-most plainClass = omega arith
+counts-most text = omega arith
+counts-most bytes = omega arith
+counts-most groups = omega arith
+counts-most strings = omega arith
+
+length-fields : (ws : List ℕ) (k : ℕ) (s : List ℕ) → length (fields ws k s) ≡ length ws
+unfolding fields
+length-fields [] k s = refl
+length-fields (w ∷ ws) k s = ap suc (length-fields ws (k + w) s)
+
+fields-whole : (s : List ℕ) (p : ℕ) (t : Token) (x : Extent) → tokenAt s p ≡ token t x → (length (t .values) ≤ 10) × (length (x .counts) ≤ 1)
+unfolding tokenOf extentOf
+fields-whole s p t x e =
+    let u = drop p s in
+    let n = field 1 0 u in
+    let r = rowOf n in
+    let w = token-at s p e in
+    let v : length (t .values) ≡ length (r .widths) = ap (λ y. length (y .values)) (sym (w .2)) ∙ length-fields (r .widths) 1 u in
+    let c : length (x .counts) ≡ length (behind (r .class)) = ap (λ y. length (y .counts)) (sym (w .3)) ∙ length-fields (behind (r .class)) (1 + sum (r .widths)) u in
+    (omega (arith, v, widths-most n), omega (arith, c, counts-most (r .class)))
+
+fault-above : (e : Fault) → faultNumber e ≢ 0
+fault-above notBody z = omega arith
+fault-above pastEnd z = omega arith
+fault-above badText z = omega arith
+
+bodies-tell : (s : List ℕ) → (flatWalk (walk s)) .number ≡ 0 → walk s ≡ tokens ((flatWalk (walk s)) .written)
+unfolding flatWalk flatWritten
+bodies-tell s = go (walk s)
+  where
+    go : (w : Walk) → (flatWalk w) .number ≡ 0 → w ≡ tokens ((flatWalk w) .written)
+    go (tokens n) z = refl
+    go (bad e p) z = absurd (fault-above e z)
+
+-- a run stops at the answer that stands at its last state, which is no item
+stop-answer : {s : List ℕ} {st : State} {r : Reading} → Reads s st r → (answerAt s (r .state) ≡ r .answer) × Stops (r .answer)
+unfolding with
+stop-answer (stops h) = (refl, h)
+stop-answer (goes e p) = stop-answer p
+
+-- a refusal at a state is 2 for its totals, or one at its place
+state-number : (s : List ℕ) (st : State) (e q n : ℕ) → answerAt s st ≡ refusal e q n → e ≢ 0
+unfolding answerAt
+state-number s st e q n f z = go (ltb (st .place) (st .records + st .files)) f
+  where
+    go : (b : Bool) → ifElse b (refusal 2 (st .place) 0) (itemAt s (st .place)) ≡ refusal e q n → ⊥
+    go true g = let k : 2 ≡ e = cc in omega arith
+    go false g = item-number s (st .place) e q n g z
+
+runs-tell : (s : List ℕ) (st : State) → (flatOutcome (stopOf (plain s st))) .number ≡ 0 → (plain s st) .answer ≡ end
+unfolding flatOutcome stoppedBy
+runs-tell s st = let w = stop-answer (plain-reads s st) in go ((plain s st) .answer) (w .0) (w .1)
+  where
+    last : State
+    last = (plain s st) .state
+
+    go : (a : Answer) → answerAt s last ≡ a → Stops a → (stoppedBy last a) .number ≡ 0 → a ≡ end
+    go (item i) e h z = absurd (h i refl)
+    go end e h z = refl
+    go (short q n) e h z = absurd (omega arith)
+    go (refusal k q n) e h z = absurd (state-number s last k q n e z)
+
+-- ---- writing
+
+-- an outcome that is never a refusal with the number 0
+wrote-some : (o : Outcome) (r : BsmWritten) → ((k q n : ℕ) → o ≡ refused k q n → k ≢ 0) → r ≡ flatWritten o → r .number ≡ 0 → o ≡ wrote (r .written)
+unfolding flatWritten
+wrote-some (wrote n) r h f z = ap (λ y. wrote (y .written)) (sym f)
+wrote-some (refused k q n) r h f z = absurd (h k q n refl (sym (ap (λ y. y .number) f) ∙ z))
+
+tells : (p : Plan) → ((d d′ : List ℕ) (f : Refusal) → Written p d d′ (Refused f) → f .number ≢ 0) → Tells p
+tells p h d d′ r x z =
+    wrote-some (answerIn (length d) p) r
+    (λ k q n e. h d d′ (record { number = k; place = q; need = n }) (record { answer = sym e; left = x .left })) (x .answer) z
+
+-- none of these numbers is 0
+abbrev Above : List ℕ → Type 0
+Above [] = Unit {0}
+Above (n ∷ ns) = (0 < n) × Above ns
+
+among-above : (ns : List ℕ) (x : ℕ) → Above ns → Among ns x → x ≢ 0
+among-above [] x a m z = m
+among-above (n ∷ ns) x a (inl e) z = omega (arith, a .0)
+among-above (n ∷ ns) x a (inr m) z = among-above ns x (a .1) m z
+
+listed-above : (ns : List ℕ) (f : Refusal) → Above ns → Listed ns f → f .number ≢ 0
+listed-above ns f a l = among-above ns (f .number) a (l .number)
+
+code-number : (room : ℕ) (bs : List ℕ) (k q n : ℕ) → answerIn room (code bs) ≡ refused k q n → k ≢ 0
+code-number room bs k q n = go (leb (length bs) room)
+  where
+    go : (b : Bool) → ifElse b (wrote (length bs)) (refused 10 0 0) ≡ refused k q n → k ≢ 0
+    go true e z = let y : _≡_ {A = ℕ} 0 1 = cc in omega arith
+    go false e z = let y : 10 ≡ k = cc in omega arith
+
+lines-tell : (bs : List ℕ) → Tells (code bs)
+lines-tell bs d d′ r x z = wrote-some (answerIn (length d) (code bs)) r (code-number (length d) bs) (x .answer) z
+
+item-lines-tell : (s : List ℕ) (p : ℕ) (d d′ : List ℕ) (r : BsmWritten) → ItemLined s p d d′ r → r .number ≡ 0 → lineAnswer (length d) p (itemAt s p) ≡ wrote (r .written)
+unfolding lineAnswer
+item-lines-tell s p d d′ r x z = wrote-some (lineAnswer (length d) p (itemAt s p)) r (go (itemAt s p) refl) (x .answer) z
+  where
+    go : (a : Answer) → itemAt s p ≡ a → (k q n : ℕ) → lineAnswer (length d) p a ≡ refused k q n → k ≢ 0
+    go (item i) e k q n f y = code-number (length d) (itemLine p i) k q n f y
+    go end e k q n f y = let w : _≡_ {A = ℕ} 0 1 = cc in omega arith
+    go (short m l) e k q n f y = let w : 1 ≡ k = cc in omega arith
+    go (refusal j m l) e k q n f y = item-number s p j m l e (let w : j ≡ k = cc in w ∙ y)
+
+-- ---- stages
+
+stages-back : (c : Cursor) (n : ℕ) → let r = flatListing c n in cursorFrom (r .stage) (stateAt (r .place) (r .records) (r .files)) ≡ c
+unfolding flatListing cursorFrom
+stages-back first n = refl
+stages-back (at st) n = refl
+stages-back done n = refl
+
+pub numbers-tell : NumbersTell
+numbers-tell =
+    record {
+      items = items-tell;
+      bodyTokens = tokens-tell;
+      bodyFields = fields-whole;
+      bodies = bodies-tell;
+      runs = runs-tell;
+      ofTokens = λ number values g. tells (tokenPlan number values g) (λ d d′ f w. listed-above (11 ∷ 8 ∷ 10 ∷ []) f (omega arith, (omega arith, (omega arith, tt))) (token-refusals number values g d d′ f w));
+      ofFiles = λ values name. tells (filePlan values name) (λ d d′ f w. listed-above (9 ∷ 8 ∷ 10 ∷ []) f (omega arith, (omega arith, (omega arith, tt))) (file-refusals values name d d′ f w));
+      ofRecords = λ h body.
+          tells (recordPlan h body)
+          (λ d d′ f w. ⊎-elim (listed-above (4 ∷ 11 ∷ 9 ∷ 10 ∷ []) f (omega arith, (omega arith, (omega arith, (omega arith, tt))))) (λ b z. fault-above (b .why) (sym (b .number) ∙ z)) (record-refusals h body d d′ f w));
+      ofLines = lines-tell;
+      ofItems = item-lines-tell;
+      stages = stages-back;
+    }

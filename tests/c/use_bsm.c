@@ -1,0 +1,233 @@
+/* Uses the library from C: writes every kind of token, a file token and two records, reads them back, lists them, and tries
+   destinations that are too small. What it expects is computed from what it wrote. Exit status 0 where every assertion holds. */
+#undef NDEBUG
+#include <assert.h>
+#include <stdio.h>
+#include <string.h>
+
+#include "bsm.h"
+
+#define REST(buffer, used) (buffer) + (used), sizeof(buffer) - (used)
+#define TEXT(s) (const uint8_t *)(s), sizeof(s) - 1
+#define NUMBERS(...) (const uint64_t[]){__VA_ARGS__}, sizeof((const uint64_t[]){__VA_ARGS__}) / sizeof(uint64_t)
+
+static uint8_t body[1024];
+static size_t body_size, tokens;
+
+static uint8_t trail[4096];
+static size_t trail_size, record_place, second_place;
+
+static int refused(bsm_written w, uint64_t number, uint64_t place)
+{
+    return w.written == 0 && w.number == number && w.place == place && w.need == 0;
+}
+
+static int accepted(bsm_written w, size_t size)
+{
+    return w.written == size && w.number == 0 && w.place == 0 && w.need == 0;
+}
+
+/* w wrote the token with this number at the body's end: `fixed` bytes, then `length` of its tail, then `behind` (a text's zero). */
+static void token(bsm_written w, uint64_t number, size_t fixed, size_t length, size_t behind, uint64_t count,
+    const uint64_t *values, size_t n)
+{
+    assert(accepted(w, fixed + length + behind));
+    bsm_token t = bsm_token_at(body, body_size + w.written, body_size);
+    assert(t.kind == BSM_TOKEN && t.token == number && t.size == w.written && t.count == count);
+    assert(t.start == body_size + fixed && t.length == length);
+    for (size_t i = 0; i < 10; i++)
+        assert(t.values[i] == (i < n ? values[i] : 0));
+    assert(t.number == 0 && t.place == 0 && t.need == 0);
+    body_size += w.written;
+    tokens++;
+}
+
+static void write_texts(void)
+{
+    const uint32_t groups[] = {10, 20, UINT32_MAX};
+    token(bsm_write_path(REST(body, body_size), TEXT("/etc/passwd")), 0x23, 3, 11, 1, 12, NULL, 0);
+    token(bsm_write_text(REST(body, body_size), TEXT("")), 0x28, 3, 0, 1, 1, NULL, 0);
+    token(bsm_write_opaque(REST(body, body_size), TEXT("\0\1\2")), 0x29, 3, 3, 0, 3, NULL, 0);
+    token(bsm_write_arg32(REST(body, body_size), 1, 700, TEXT("fd")), 0x2D, 8, 2, 1, 3, NUMBERS(1, 700));
+    token(bsm_write_arg64(REST(body, body_size), 2, UINT64_MAX, TEXT("length")), 0x71, 12, 6, 1, 7, NUMBERS(2, UINT64_MAX));
+    token(bsm_write_newgroups(REST(body, body_size), groups, 3), 0x3B, 3, sizeof groups, 0, 3, NULL, 0);
+    token(bsm_write_exec_args(REST(body, body_size), 2, TEXT("ls\0-l\0")), 0x3C, 5, 6, 0, 2, NULL, 0);
+    token(bsm_write_exec_env(REST(body, body_size), 0, TEXT("")), 0x3D, 5, 0, 0, 0, NULL, 0);
+}
+
+static void write_values(void)
+{
+    token(bsm_write_return32(REST(body, body_size), 255, 5), 0x27, 6, 0, 0, 0, NUMBERS(255, 5));
+    token(bsm_write_return64(REST(body, body_size), 0, UINT64_MAX), 0x72, 10, 0, 0, 0, NUMBERS(0, UINT64_MAX));
+    token(bsm_write_in_addr(REST(body, body_size), 0x7F000001), 0x2A, 5, 0, 0, 0, NUMBERS(0x7F000001));
+    token(bsm_write_ip(REST(body, body_size), 69, 1, 60000, 2, 3, 64, 6, 65535, 4, UINT32_MAX), 0x2B, 21, 0, 0, 0,
+        NUMBERS(69, 1, 60000, 2, 3, 64, 6, 65535, 4, UINT32_MAX));
+    token(bsm_write_iport(REST(body, body_size), 8080), 0x2C, 3, 0, 0, 0, NUMBERS(8080));
+    token(bsm_write_seq(REST(body, body_size), 9), 0x2F, 5, 0, 0, 0, NUMBERS(9));
+    token(bsm_write_ipc_perm(REST(body, body_size), 1, 2, 3, 4, 5, 6, 7), 0x32, 29, 0, 0, 0, NUMBERS(1, 2, 3, 4, 5, 6, 7));
+    token(bsm_write_exit(REST(body, body_size), 3, 4), 0x52, 9, 0, 0, 0, NUMBERS(3, 4));
+}
+
+static void write_parties(void)
+{
+    const uint64_t wide = (uint64_t)1 << 40;
+    token(bsm_write_subject32(REST(body, body_size), 1, 2, 3, 4, 5, 6, 7, 8, 9), 0x24, 37, 0, 0, 0,
+        NUMBERS(1, 2, 3, 4, 5, 6, 7, 8, 9));
+    token(bsm_write_process32(REST(body, body_size), 9, 8, 7, 6, 5, 4, 3, 2, 1), 0x26, 37, 0, 0, 0,
+        NUMBERS(9, 8, 7, 6, 5, 4, 3, 2, 1));
+    token(bsm_write_subject64(REST(body, body_size), 1, 2, 3, 4, 5, 6, 7, wide, 9), 0x75, 41, 0, 0, 0,
+        NUMBERS(1, 2, 3, 4, 5, 6, 7, wide, 9));
+    token(bsm_write_process64(REST(body, body_size), 9, 8, 7, 6, 5, 4, 3, wide, 1), 0x77, 41, 0, 0, 0,
+        NUMBERS(9, 8, 7, 6, 5, 4, 3, wide, 1));
+}
+
+/* The body as a whole, the strings of its first two tokens, its end, and places that are refused. */
+static void read_body(void)
+{
+    assert(tokens == 20 && accepted(bsm_walk_body(body, body_size), tokens));
+    bsm_part path = bsm_text_at(body, body_size, 0);
+    assert(path.start == 3 && path.length == 11 && memcmp(body + path.start, "/etc/passwd", 11) == 0);
+    bsm_part empty = bsm_text_at(body, body_size, 15);
+    assert(empty.start == 18 && empty.length == 0);
+    bsm_part opaque = bsm_text_at(body, body_size, 19);
+    assert(opaque.start == 0 && opaque.length == 0);
+
+    bsm_token end = bsm_token_at(body, body_size, body_size), beyond = bsm_token_at(body, body_size, body_size + 1);
+    assert(end.kind == BSM_NO_TOKEN && end.number == 0 && end.size == 0);
+    assert(beyond.kind == BSM_TOKEN_REFUSED && beyond.number == 2 && beyond.place == body_size + 1 && beyond.need == 0);
+    assert(refused(bsm_walk_body(body, 14), 7, 0));
+    assert(refused(bsm_walk_body(body + 1, body_size - 1), 6, 0));
+}
+
+/* A file token, and the body in a record of each kind. */
+static void write_trail(void)
+{
+    assert(accepted(bsm_write_file(REST(trail, 0), 5, 999999, TEXT("20240131")), 11 + 8 + 1));
+    record_place = 20;
+    bsm_written first = bsm_write_record32(REST(trail, record_place), 11, 72, 1, 1000, 2000, body, body_size);
+    assert(accepted(first, 19 + body_size + 7));
+    second_place = record_place + first.written;
+    bsm_written second = bsm_write_record64(REST(trail, second_place), 11, 73, 0, (uint64_t)1 << 33, 999999999, body, 0);
+    assert(accepted(second, 27 + 7));
+    trail_size = second_place + second.written;
+
+    assert(trail[0] == 0x11 && trail[record_place] == 0x14 && trail[second_place] == 0x74);
+    assert(memcmp(trail + record_place + 19, body, body_size) == 0);
+    assert(memcmp(trail + second_place - 7, "\x13\xB1\x05\0\0", 5) == 0);
+}
+
+static int same_part(bsm_part p, uint64_t start, uint64_t length)
+{
+    return p.start == start && p.length == length;
+}
+
+static void read_items(void)
+{
+    bsm_item f = bsm_item_at(trail, trail_size, 0);
+    assert(f.kind == BSM_FILE && f.size == 20 && f.header == 0 && f.seconds == 5 && f.fraction == 999999 && f.tokens == 0);
+    assert(same_part(bsm_name_at(trail, trail_size, 0), 11, 8) && memcmp(trail + 11, "20240131", 9) == 0);
+    assert(same_part(bsm_body_at(trail, trail_size, 0), 0, 0));
+
+    bsm_item r = bsm_item_at(trail, trail_size, record_place);
+    assert(r.kind == BSM_RECORD && r.size == 26 + body_size && r.header == 0x14 && r.version == 11 && r.event == 72);
+    assert(r.modifier == 1 && r.seconds == 1000 && r.fraction == 2000 && r.tokens == tokens && r.number == 0);
+    assert(same_part(bsm_body_at(trail, trail_size, record_place), record_place + 19, body_size));
+    assert(same_part(bsm_name_at(trail, trail_size, record_place), 0, 0));
+
+    bsm_item w = bsm_item_at(trail, trail_size, second_place);
+    assert(w.kind == BSM_RECORD && w.size == 34 && w.header == 0x74 && w.seconds == (uint64_t)1 << 33 && w.tokens == 0);
+    assert(same_part(bsm_body_at(trail, trail_size, second_place), second_place + 27, 0));
+
+    assert(bsm_item_at(trail, trail_size, trail_size).kind == BSM_END);
+    bsm_item cut = bsm_item_at(trail, trail_size - 1, second_place);
+    assert(cut.kind == BSM_REFUSED && cut.number == 1 && cut.place == second_place && cut.need == 34 && cut.size == 0);
+    bsm_item beyond = bsm_item_at(trail, trail_size, SIZE_MAX);
+    assert(beyond.kind == BSM_REFUSED && beyond.number == 2 && beyond.place == SIZE_MAX && beyond.need == 0);
+}
+
+/* Steps and the run agree; a run goes on where one on a shorter trail has stopped. */
+static void read_trail(void)
+{
+    bsm_step s = {.place = 0};
+    size_t seen = 0;
+    while ((s = bsm_next(trail, trail_size, s.place, s.records, s.files)).item.kind != BSM_END)
+        assert(s.item.kind != BSM_REFUSED && ++seen <= 3);
+    bsm_outcome all = bsm_run(trail, trail_size, 0, 0, 0);
+    assert(all.place == trail_size && all.records == 2 && all.files == 1 && all.number == 0 && all.at == 0 && all.need == 0);
+    assert(seen == 3 && s.place == all.place && s.records == all.records && s.files == all.files);
+
+    bsm_outcome part = bsm_run(trail, second_place - 1, 0, 0, 0);
+    assert(part.place == record_place && part.records == 0 && part.files == 1);
+    assert(part.number == 1 && part.at == record_place && part.need == 26 + body_size);
+    bsm_outcome rest = bsm_run(trail, trail_size, part.place, part.records, part.files);
+    assert(memcmp(&rest, &all, sizeof all) == 0);
+
+    bsm_outcome high = bsm_run(trail, trail_size, 1, 1, 1);
+    assert(high.place == 1 && high.records == 1 && high.files == 1 && high.number == 2 && high.at == 1 && high.need == 0);
+}
+
+/* The listing as one text, line by line, and in parts of any room that holds the longest line. */
+static void list_trail(void)
+{
+    char expected[256];
+    size_t n = (size_t)snprintf(expected, sizeof expected,
+        "bsmlist\t1\nF\t0\t20\t5\t999999\nR\t%zu\t%zu\t72\t1\t1000\t2000\t20\nR\t%zu\t34\t73\t0\t8589934592\t999999999\t0\nE\t2\t1\n",
+        record_place, 26 + body_size, second_place);
+    uint8_t lines[256];
+    size_t at = bsm_first_line(REST(lines, 0)).written;
+    for (size_t place = 0; place < trail_size; place += bsm_item_at(trail, trail_size, place).size)
+        at += bsm_item_line(REST(lines, at), trail, trail_size, place).written;
+    at += bsm_last_line(REST(lines, at), trail, trail_size, 0, 0, 0).written;
+    assert(at == n && memcmp(lines, expected, n) == 0);
+
+    for (size_t room = 45; room <= n; room++) {
+        bsm_listing l = {.stage = BSM_LIST_FIRST};
+        size_t joined = 0;
+        do {
+            l = bsm_list(lines, room, trail, trail_size, l.stage, l.place, l.records, l.files);
+            assert(0 < l.written && l.written <= room && memcmp(lines, expected + joined, l.written) == 0);
+            joined += l.written;
+        } while (l.stage != BSM_LIST_DONE);
+        assert(joined == n);
+    }
+    assert(bsm_list(lines, 9, trail, trail_size, BSM_LIST_FIRST, 0, 0, 0).written == 0);
+    assert(bsm_list(lines, sizeof lines, trail, trail_size, 7, 0, 0, 0).stage == BSM_LIST_DONE);
+    assert(accepted(bsm_item_line(REST(lines, 0), trail, trail_size, trail_size), 0));
+    bsm_written cut = bsm_item_line(REST(lines, 0), trail, second_place + 4, second_place);
+    assert(cut.written == 0 && cut.number == 1 && cut.place == second_place && cut.need == 5);
+}
+
+/* A refused write leaves every byte as it stood; an accepted one changes only what it says it wrote. */
+static void guard_bytes(void)
+{
+    uint8_t d[64], before[64];
+    memset(d, 0xA5, sizeof d);
+    memcpy(before, d, sizeof d);
+    assert(refused(bsm_write_path(d + 8, 8, TEXT("/tmp/")), 10, 0));
+    assert(refused(bsm_write_path(d + 8, 56, TEXT("/t\0p")), 8, 0));
+    assert(refused(bsm_write_file(d + 8, 56, 0, 1000000, TEXT("name")), 9, 0));
+    assert(refused(bsm_write_record32(d + 8, 25, 0, 0, 0, 0, 0, body, 0), 10, 0));
+    assert(refused(bsm_write_record32(d + 8, 56, 0, 0, 0, (uint64_t)1 << 32, 0, body, 0), 11, 0));
+    assert(refused(bsm_write_record64(d + 8, 56, 0, 0, 0, 0, 0, body, 18), 7, 15));
+    assert(refused(bsm_first_line(d + 8, 9), 10, 0));
+    assert(memcmp(d, before, sizeof d) == 0);
+
+    assert(accepted(bsm_write_path(d + 8, 9, TEXT("/tmp/")), 9));
+    assert(memcmp(d + 8, "\x23\0\6/tmp/\0", 9) == 0);
+    assert(memcmp(d, before, 8) == 0 && memcmp(d + 17, before + 17, sizeof d - 17) == 0);
+}
+
+int main(void)
+{
+    write_texts();
+    write_values();
+    write_parties();
+    read_body();
+    write_trail();
+    read_items();
+    read_trail();
+    list_trail();
+    guard_bytes();
+    puts("bsm from C: ok");
+    return 0;
+}
