@@ -5,16 +5,13 @@ use mathlib.Core.List.{List, []}
 use Prim.Native.Nat.{ℕ, _+_, _-_, _≤_}
 use native.Mathlib.Omega.{arith}
 use lib.ListN.{length, take, drop, length-drop}
-use lib.Seq.{length-take-le}
-use Rattle.bsm_token.specs.Number.{sum}
+use lib.Seq.{drop-drop, length-take-le}
+use Rattle.bsm_token.specs.Number.{field, sum}
 use Rattle.bsm_token.specs.Layout.{rows, rowIn, rowOf, before, behind, layout, fixed}
-use Rattle.bsm_token.specs.Token.{TokenAnswer, tokenAt, hasString, stringOf}
-use Rattle.bsm_token.specs.Tokens.{numberOf, tokenMeant}
+use Rattle.bsm_token.specs.Token.{Token, Extent, extentOf, TokenAnswer, token, end as tokenEnd, refusal as tokenRefusal, tokenAt, hasString, stringOf}
 use Rattle.bsm_token.specs.declared.refusal.Refusal.{Refusal}
-use Rattle.bsm_token.specs.declared.kind.Token.{Token as Kind}
-use Rattle.bsm_token.specs.declared.token.TokenRead.{TokenRead}
-use Rattle.bsm_token.specs.declared.token.TokenRead.the-variants.{Found as FoundToken, End as TokenEnd, Refused as TokenRefused}
-use Rattle.bsm_token.proofs.Answers.{string-inside}
+use Rattle.bsm_token.proofs.Reader.{token-at}
+use Rattle.bsm_token.proofs.Tokens.{size-some, tail-take, tail-length}
 use Rattle.bsm_item.specs.Item.{partOf, partStart, Answer, item, end, short, refusal, itemAt}
 use Rattle.bsm_item.specs.Meaning.{headMeant, headSize, itemMeant, refusalMeant, readMeant, sizeFound}
 use Rattle.bsm_item.specs.declared.item.Header.{Header}
@@ -24,8 +21,9 @@ use Rattle.bsm_item.specs.declared.item.ItemRead.{ItemRead}
 use Rattle.bsm_item.specs.declared.item.ItemRead.the-variants.{Found as FoundItem, End, Refused}
 use Rattle.bsm_item.proofs.Longer.{item-long}
 use Rattle.bsm_export.specs.Items.{FoundAt, Stands, bodyOf, bodyStart, nameOf, nameStart}
-use Rattle.bsm_export.specs.Tokens.{stringStart}
+use Rattle.bsm_export.specs.Tokens.{flatToken, stringStart}
 use Rattle.bsm_export.specs.declared.item.BsmPart.{BsmPart}
+use Rattle.bsm_export.specs.declared.token.BsmToken.{BsmToken}
 use Rattle.bsm_export.proofs.Refusals.{by-numbers}
 
 abbrev part : ℕ → ℕ → BsmPart
@@ -130,29 +128,41 @@ module _ (s : List ℕ) (p : ℕ) (r : ItemRead) (e : readMeant s p r ≡ itemAt
 
 -- ---- the string of a token
 
-module _ (s : List ℕ) (p : ℕ) (r : TokenRead) (e : tokenMeant s r ≡ tokenAt s p) where
-  answer : {x : TokenRead} → r ≡ x → tokenAt s p ≡ tokenMeant s x
-  answer f = sym e ∙ ap (tokenMeant s) f
+-- the tail of a token at p
+tail-stands : (s : List ℕ) (p : ℕ) {t : Token} {x : Extent} {q : BsmPart} → tokenAt s p ≡ token t x → q ≡ part (x .start) (x .length) → Stands s (t .tail) (x .start) q
+unfolding extentOf
+tail-stands s p {t} {x} f e =
+    let h = token-at s p f in
+    let k = size-some (drop p s) (h .1) .1 in
+    let l = ap (λ y. y .length) (sym (h .3)) in
+    let d = ap (λ y. drop (y .start) s) (sym (h .3)) ∙ sym (drop-drop (fixed (rowOf (field 1 0 (drop p s)))) p s) in
+    rw e
+    (record {
+      start = refl;
+      long = l ∙ sym (tail-length (drop p s) k) ∙ ap (λ y. length (y .tail)) (h .2);
+      bytes = ap₂ (λ n y. take n y) l d ∙ sym (tail-take (drop p s) k) ∙ ap (λ y. y .tail) (h .2);
+    })
 
-  string-stands : {a : TokenAnswer} {q : BsmPart} → tokenAt s p ≡ a → Stands s (stringOf a) (stringStart a) q → Stands s (stringOf (tokenAt s p)) (stringStart (tokenAt s p)) q
-  string-stands f h = rw f h
+-- r is the answer at p, and b says whether it is a path or a text; at the end and for a refusal its numbers are 0
+module _ (s : List ℕ) (p : ℕ) (r : BsmToken) (e : r ≡ flatToken (tokenAt s p)) (b : Bool) (g : b ≡ hasString (r .token)) where
+  has : {v : Bool} {t : Token} {x : Extent} → b ≡ v → tokenAt s p ≡ token t x → hasString (t .number) ≡ v
+  unfolding flatToken
+  has h f = ap (λ a. hasString (flatToken a .token)) (sym f) ∙ ap (λ y. hasString (y .token)) (sym e) ∙ sym g ∙ h
 
-  module _ (t : Kind) (a l n : ℕ) (f : r ≡ FoundToken t a l n) (x : ℕ) (d : x ≡ numberOf t) (b : Bool) (g : b ≡ hasString x) where
-    has : {v : Bool} → b ≡ v → hasString (numberOf t) ≡ v
-    has h = ap hasString (sym d) ∙ sym g ∙ h
+  pub string-at : {q : BsmPart} → b ≡ true → q ≡ part (r .start) (r .length) → Stands s (stringOf (tokenAt s p)) (stringStart (tokenAt s p)) q
+  unfolding flatToken stringOf stringStart
+  string-at {q} h z = go (tokenAt s p) refl (z ∙ ap (λ y. part (y .start) (y .length)) e)
+    where
+      go : (a : TokenAnswer) → tokenAt s p ≡ a → q ≡ part (flatToken a .start) (flatToken a .length) → Stands s (stringOf a) (stringStart a) q
+      go (token t x) f z = rw (has h f) (tail-stands s p f z)
+      go tokenEnd f z = nowhere s z
+      go (tokenRefusal i j k) f z = nowhere s z
 
-    pub string-at : {q : BsmPart} → b ≡ true → q ≡ part a l → Stands s (stringOf (tokenAt s p)) (stringStart (tokenAt s p)) q
-    unfolding stringOf stringStart
-    string-at h z = string-stands (answer f) (rw (has h) (stands s a l (omega (arith, string-inside s p r e t a l n f)) z))
-
-    pub string-none : {q : BsmPart} → b ≡ false → q ≡ part 0 0 → Stands s (stringOf (tokenAt s p)) (stringStart (tokenAt s p)) q
-    unfolding stringOf stringStart
-    string-none h z = string-stands (answer f) (rw (has h) (nowhere s z))
-
-  pub string-end : {q : BsmPart} → r ≡ TokenEnd → q ≡ part 0 0 → Stands s (stringOf (tokenAt s p)) (stringStart (tokenAt s p)) q
+  pub string-none : {q : BsmPart} → b ≡ false → q ≡ part 0 0 → Stands s (stringOf (tokenAt s p)) (stringStart (tokenAt s p)) q
   unfolding stringOf stringStart
-  string-end f z = string-stands (answer f) (nowhere s z)
-
-  pub string-refused : {q : BsmPart} (f : Refusal) → r ≡ TokenRefused f → q ≡ part 0 0 → Stands s (stringOf (tokenAt s p)) (stringStart (tokenAt s p)) q
-  unfolding stringOf stringStart
-  string-refused f g z = string-stands (answer g) (nowhere s z)
+  string-none {q} h z = go (tokenAt s p) refl
+    where
+      go : (a : TokenAnswer) → tokenAt s p ≡ a → Stands s (stringOf a) (stringStart a) q
+      go (token t x) f = rw (has h f) (nowhere s z)
+      go tokenEnd f = nowhere s z
+      go (tokenRefusal i j k) f = nowhere s z

@@ -1,4 +1,4 @@
--- Tokens and their fields as numbers. Assumes nothing.
+-- Tokens as numbers. Assumes nothing.
 use mathlib.Core.Path.{_≡_, sym, ap, _∙_}
 use mathlib.Core.List.{List}
 use Prim.Native.Nat.{ℕ}
@@ -8,24 +8,16 @@ use Rattle.bsm_token.specs.declared.refusal.Refusal.{Refusal}
 use Rattle.bsm_token.specs.declared.kind.Token.{Token}
 use Rattle.bsm_token.specs.declared.token.TokenRead.{TokenRead}
 use Rattle.bsm_token.specs.declared.token.TokenRead.the-variants.{Found, End, Refused}
-use Rattle.bsm_export.specs.Tokens.{firstOf, padded, foundToken, noToken, flatToken}
+use Rattle.bsm_export.specs.Tokens.{foundToken, noToken, flatToken}
 use Rattle.bsm_export.specs.declared.token.BsmToken.{BsmToken}
 use Rattle.bsm_export.proofs.Refusals.{zeros}
 
--- ---- the fields of each kind
+-- a token of the kind k
+pub found-as : (t k : Token) {q : BsmToken} {a l n : ℕ} → t ≡ k → q ≡ foundToken (numberOf k) (valuesOf k) (countsOf k) a l n
+    → q ≡ foundToken (numberOf t) (valuesOf t) (countsOf t) a l n
+found-as t k {a = a} {l = l} {n = n} e h = h ∙ ap (λ x. foundToken (numberOf x) (valuesOf x) (countsOf x) a l n) (sym e)
 
-pub values-as : (t k : Token) (vs : List ℕ) → t ≡ k → vs ≡ padded 10 (valuesOf k) → vs ≡ padded 10 (valuesOf t)
-values-as t k vs e h = h ∙ ap (λ x. padded 10 (valuesOf x)) (sym e)
-
-pub count-as : (t k : Token) (n : ℕ) → t ≡ k → n ≡ firstOf (countsOf k) → n ≡ firstOf (countsOf t)
-count-as t k n e h = h ∙ ap (λ x. firstOf (countsOf x)) (sym e)
-
--- ---- a token, and each answer
-
-pub token-numbers : (t : Token) (x : ℕ) (vs : List ℕ) (n a l m : ℕ) → x ≡ numberOf t → vs ≡ padded 10 (valuesOf t) → n ≡ firstOf (countsOf t)
-    → record { kind = 1; token = x; start = a; length = l; size = m; count = n; values = vs; number = 0; place = 0; need = 0 } ≡ foundToken (numberOf t) (valuesOf t) (countsOf t) a l m
-token-numbers t x vs n a l m e f g =
-    λ k. record { kind = 1; token = e k; start = a; length = l; size = m; count = g k; values = f k; number = 0; place = 0; need = 0 }
+-- ---- each answer
 
 module _ (s : List ℕ) (p : ℕ) (r : TokenRead) (e : tokenMeant s r ≡ tokenAt s p) {q : BsmToken} where
   pub found-flat : (t : Token) (a l n : ℕ) → r ≡ Found t a l n → q ≡ foundToken (numberOf t) (valuesOf t) (countsOf t) a l n → q ≡ flatToken (tokenAt s p)

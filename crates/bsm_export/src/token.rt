@@ -1,21 +1,16 @@
 // The token at a place of a body, where its text stands, and the tokens of a body.
 ghost use mathlib.Core.Path.{_≡_};
 ghost use Rattle.bsm_token.specs.Token.{hasString, stringOf, tokenAt, walk};
-ghost use Rattle.bsm_token.specs.Tokens.{numberOf, valuesOf, countsOf};
 ghost use Rattle.bsm_export.specs.Items.{Stands};
-ghost use Rattle.bsm_export.specs.Tokens.{foundToken, noToken, flatToken, stringStart};
+ghost use Rattle.bsm_export.specs.Tokens.{noToken, flatToken, stringStart};
 ghost use Rattle.bsm_export.specs.Written.{flatWalk};
 use crate::answer::BsmWritten;
 use crate::answer::no_refusal;
 use crate::answer::told;
 use crate::item::BsmPart;
-use crate::item::part;
-use crate::values::count_of;
-use crate::values::values_of;
+use crate::values::found;
 use bsm_token::body::BodyRead;
 use bsm_token::body::walk_body;
-use bsm_token::kind::Token;
-use bsm_token::kind::number_of;
 use bsm_token::refusal::Refusal;
 use bsm_token::token::TokenRead;
 use bsm_token::token::token_at;
@@ -33,24 +28,6 @@ pub struct BsmToken {
     pub number: u64,
     pub place: u64,
     pub need: u64,
-}
-
-fn found(token: Token, start: usize, length: usize, size: usize) -> BsmToken
-    ensures { λ r. ⌜ r ≡ foundToken (numberOf token) (valuesOf token) (countsOf token) start length size ⌝ }
-{
-    let values = values_of(token);
-    BsmToken {
-        kind: 1,
-        token: number_of(token) as u64,
-        start: start as u64,
-        length: length as u64,
-        size: size as u64,
-        count: count_of(token),
-        values: values,
-        number: 0,
-        place: 0,
-        need: 0,
-    }
 }
 
 // No token: the end, or a refusal.
@@ -89,7 +66,7 @@ pub extern "C" fn bsm_token_at(body: &[u8], place: usize) -> BsmToken
 }
 
 // Whether a token with this number is a path or a text.
-fn is_string(number: u8) -> bool
+fn is_string(number: u64) -> bool
     ensures { λ r. ⌜ r ≡ hasString number ⌝ }
 {
     if number == 0x23 { true } else { number == 0x28 }
@@ -100,21 +77,17 @@ fn is_string(number: u8) -> bool
 pub extern "C" fn bsm_text_at(body: &[u8], place: usize) -> BsmPart
     ensures { λ r. ⌜ Stands (now (body .entry)) (stringOf (tokenAt (now (body .entry)) place)) (stringStart (tokenAt (now (body .entry)) place)) r ⌝ }
 {
-    match token_at(body, place) {
-        TokenRead::Found {
-            token,
-            start,
-            length,
-            size: _,
-        } => {
-            if is_string(number_of(token)) {
-                part(start, length)
-            } else {
-                part(0, 0)
-            }
+    let t = bsm_token_at(body, place);
+    if is_string(t.token) {
+        BsmPart {
+            start: t.start,
+            length: t.length,
         }
-        TokenRead::End => part(0, 0),
-        TokenRead::Refused(_) => part(0, 0),
+    } else {
+        BsmPart {
+            start: 0,
+            length: 0,
+        }
     }
 }
 

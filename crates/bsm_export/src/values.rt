@@ -1,30 +1,64 @@
-// The fields of a token as numbers.
+// A found token as numbers.
 ghost use mathlib.Core.Path.{_≡_};
 ghost use mathlib.Core.List.{[], _∷_};
-ghost use Rattle.bsm_token.specs.Tokens.{party32Values, party64Values, ipValues, permissionsValues, valuesOf, countsOf};
-ghost use Rattle.bsm_export.specs.Tokens.{firstOf, padded};
+ghost use Rattle.bsm_token.specs.Tokens.{party32Values, party64Values, ipValues, permissionsValues, numberOf, valuesOf, countsOf};
+ghost use Rattle.bsm_export.specs.Tokens.{tokenWith, foundToken};
+use crate::token::BsmToken;
 use bsm_token::kind::IpHeader;
 use bsm_token::kind::Party32;
 use bsm_token::kind::Party64;
 use bsm_token::kind::Permissions;
 use bsm_token::kind::Token;
 
-fn one(x: u64) -> [u64; 10]
-    ensures { λ r. ⌜ r ≡ padded 10 (x ∷ []) ⌝ }
-{
-    [x, 0, 0, 0, 0, 0, 0, 0, 0, 0]
+// Where a token's tail starts, how long it is, and the token's size.
+struct Extent {
+    start: usize,
+    length: usize,
+    size: usize,
 }
 
-fn two(x: u64, y: u64) -> [u64; 10]
-    ensures { λ r. ⌜ r ≡ padded 10 (x ∷ y ∷ []) ⌝ }
+// A token by its number, its count and ten values.
+fn with(number: u8, count: u64, values: [u64; 10], e: Extent) -> BsmToken
+    ensures { λ r. ⌜ r ≡ tokenWith number count values (e .start) (e .length) (e .size) ⌝ }
 {
-    [x, y, 0, 0, 0, 0, 0, 0, 0, 0]
+    BsmToken {
+        kind: 1,
+        token: number as u64,
+        start: e.start as u64,
+        length: e.length as u64,
+        size: e.size as u64,
+        count: count,
+        values: values,
+        number: 0,
+        place: 0,
+        need: 0,
+    }
 }
 
-fn party64(p: Party64) -> [u64; 10]
-    ensures { λ r. ⌜ r ≡ padded 10 (party64Values p) ⌝ }
+// A token with a count only.
+fn counted(number: u8, count: u64, e: Extent) -> BsmToken
+    ensures { λ r. ⌜ r ≡ foundToken number [] (count ∷ []) (e .start) (e .length) (e .size) ⌝ }
 {
-    [
+    with(number, count, [0; 10], e)
+}
+
+fn one(number: u8, x: u64, e: Extent) -> BsmToken
+    ensures { λ r. ⌜ r ≡ foundToken number (x ∷ []) [] (e .start) (e .length) (e .size) ⌝ }
+{
+    with(number, 0, [x, 0, 0, 0, 0, 0, 0, 0, 0, 0], e)
+}
+
+// Two values and a count, 0 for none.
+fn two(number: u8, count: u64, x: u64, y: u64, e: Extent) -> BsmToken
+    ensures { λ r. ⌜ r ≡ foundToken number (x ∷ y ∷ []) (count ∷ []) (e .start) (e .length) (e .size) ⌝ }
+{
+    with(number, count, [x, y, 0, 0, 0, 0, 0, 0, 0, 0], e)
+}
+
+fn party64(number: u8, p: Party64, e: Extent) -> BsmToken
+    ensures { λ r. ⌜ r ≡ foundToken number (party64Values p) [] (e .start) (e .length) (e .size) ⌝ }
+{
+    let values = [
         p.audit as u64,
         p.effective_user as u64,
         p.effective_group as u64,
@@ -35,13 +69,14 @@ fn party64(p: Party64) -> [u64; 10]
         p.port,
         p.address as u64,
         0,
-    ]
+    ];
+    with(number, 0, values, e)
 }
 
-fn party32(p: Party32) -> [u64; 10]
-    ensures { λ r. ⌜ r ≡ padded 10 (party32Values p) ⌝ }
+fn party32(number: u8, p: Party32, e: Extent) -> BsmToken
+    ensures { λ r. ⌜ r ≡ foundToken number (party32Values p) [] (e .start) (e .length) (e .size) ⌝ }
 {
-    party64(Party64 {
+    let wide = Party64 {
         audit: p.audit,
         effective_user: p.effective_user,
         effective_group: p.effective_group,
@@ -51,13 +86,14 @@ fn party32(p: Party32) -> [u64; 10]
         session: p.session,
         port: p.port as u64,
         address: p.address,
-    })
+    };
+    party64(number, wide, e)
 }
 
-fn ip(h: IpHeader) -> [u64; 10]
-    ensures { λ r. ⌜ r ≡ padded 10 (ipValues h) ⌝ }
+fn ip(h: IpHeader, e: Extent) -> BsmToken
+    ensures { λ r. ⌜ r ≡ foundToken 0x2B (ipValues h) [] (e .start) (e .length) (e .size) ⌝ }
 {
-    [
+    let values = [
         h.version as u64,
         h.service as u64,
         h.length as u64,
@@ -68,13 +104,14 @@ fn ip(h: IpHeader) -> [u64; 10]
         h.checksum as u64,
         h.source as u64,
         h.destination as u64,
-    ]
+    ];
+    with(0x2B, 0, values, e)
 }
 
-fn permissions(p: Permissions) -> [u64; 10]
-    ensures { λ r. ⌜ r ≡ padded 10 (permissionsValues p) ⌝ }
+fn permissions(p: Permissions, e: Extent) -> BsmToken
+    ensures { λ r. ⌜ r ≡ foundToken 0x32 (permissionsValues p) [] (e .start) (e .length) (e .size) ⌝ }
 {
-    [
+    let values = [
         p.user as u64,
         p.group as u64,
         p.creator_user as u64,
@@ -85,80 +122,47 @@ fn permissions(p: Permissions) -> [u64; 10]
         0,
         0,
         0,
-    ]
+    ];
+    with(0x32, 0, values, e)
 }
 
-// The values of a token in the order of its layout, then zeros.
-pub(crate) fn values_of(t: Token) -> [u64; 10]
-    ensures { λ r. ⌜ r ≡ padded 10 (valuesOf t) ⌝ }
+// A token with its place: one match, so that the compiled code branches once.
+pub(crate) fn found(token: Token, start: usize, length: usize, size: usize) -> BsmToken
+    ensures { λ r. ⌜ r ≡ foundToken (numberOf token) (valuesOf token) (countsOf token) start length size ⌝ }
 {
-    match t {
-        Token::Path { length: _ } => [0; 10],
-        Token::Subject32(p) => party32(p),
-        Token::Process32(p) => party32(p),
-        Token::Return32 { error, value } => two(error as u64, value as u64),
-        Token::Text { length: _ } => [0; 10],
-        Token::Opaque { length: _ } => [0; 10],
-        Token::InAddr(a) => one(a as u64),
-        Token::Ip(h) => ip(h),
-        Token::Iport(p) => one(p as u64),
+    let e = Extent {
+        start: start,
+        length: length,
+        size: size,
+    };
+    match token {
+        Token::Path { length: n } => counted(0x23, n as u64, e),
+        Token::Subject32(p) => party32(0x24, p, e),
+        Token::Process32(p) => party32(0x26, p, e),
+        Token::Return32 { error, value } => two(0x27, 0, error as u64, value as u64, e),
+        Token::Text { length: n } => counted(0x28, n as u64, e),
+        Token::Opaque { length: n } => counted(0x29, n as u64, e),
+        Token::InAddr(a) => one(0x2A, a as u64, e),
+        Token::Ip(h) => ip(h, e),
+        Token::Iport(p) => one(0x2C, p as u64, e),
         Token::Arg32 {
             argument,
             value,
-            length: _,
-        } => two(argument as u64, value as u64),
-        Token::Seq(n) => one(n as u64),
-        Token::IpcPerm(p) => permissions(p),
-        Token::Newgroups { count: _ } => [0; 10],
-        Token::ExecArgs { count: _ } => [0; 10],
-        Token::ExecEnv { count: _ } => [0; 10],
-        Token::Exit { status, value } => two(status as u64, value as u64),
+            length: n,
+        } => two(0x2D, n as u64, argument as u64, value as u64, e),
+        Token::Seq(n) => one(0x2F, n as u64, e),
+        Token::IpcPerm(p) => permissions(p, e),
+        Token::Newgroups { count } => counted(0x3B, count as u64, e),
+        Token::ExecArgs { count } => counted(0x3C, count as u64, e),
+        Token::ExecEnv { count } => counted(0x3D, count as u64, e),
+        Token::Exit { status, value } => two(0x52, 0, status as u64, value as u64, e),
         Token::Arg64 {
             argument,
             value,
-            length: _,
-        } => two(argument as u64, value),
-        Token::Return64 { error, value } => two(error as u64, value),
-        Token::Subject64(p) => party64(p),
-        Token::Process64(p) => party64(p),
-    }
-}
-
-// The length, number or count of a token, 0 where it has no such field.
-pub(crate) fn count_of(t: Token) -> u64
-    ensures { λ r. ⌜ r ≡ firstOf (countsOf t) ⌝ }
-{
-    match t {
-        Token::Path { length } => length as u64,
-        Token::Subject32(_) => 0,
-        Token::Process32(_) => 0,
-        Token::Return32 { error: _, value: _ } => 0,
-        Token::Text { length } => length as u64,
-        Token::Opaque { length } => length as u64,
-        Token::InAddr(_) => 0,
-        Token::Ip(_) => 0,
-        Token::Iport(_) => 0,
-        Token::Arg32 {
-            argument: _,
-            value: _,
-            length,
-        } => length as u64,
-        Token::Seq(_) => 0,
-        Token::IpcPerm(_) => 0,
-        Token::Newgroups { count } => count as u64,
-        Token::ExecArgs { count } => count as u64,
-        Token::ExecEnv { count } => count as u64,
-        Token::Exit {
-            status: _,
-            value: _,
-        } => 0,
-        Token::Arg64 {
-            argument: _,
-            value: _,
-            length,
-        } => length as u64,
-        Token::Return64 { error: _, value: _ } => 0,
-        Token::Subject64(_) => 0,
-        Token::Process64(_) => 0,
+            length: n,
+        } => two(0x71, n as u64, argument as u64, value, e),
+        Token::Return64 { error, value } => two(0x72, 0, error as u64, value, e),
+        Token::Subject64(p) => party64(0x75, p, e),
+        Token::Process64(p) => party64(0x77, p, e),
     }
 }

@@ -18,4 +18,5 @@ ip-spec =
     (λ c. search needs)
     (λ c. search needs)
     (λ c. omega (arith, c .struct-known10 .given .1 .1 .1 .1 .1 .1 .1 .1 .1 .0))
+    (λ c κs. search needs)
     (λ c. search needs))
