@@ -128,7 +128,7 @@ pub extern "C" fn bsm_item_at(trail: &[u8], place: usize) -> BsmItem
 }
 
 // The part of n bytes from a place on.
-pub(crate) fn part(start: usize, n: usize) -> BsmPart
+fn part(start: usize, n: usize) -> BsmPart
     ensures { λ r. ⌜ r ≡ record { start = start; length = n } ⌝ }
 {
     BsmPart {

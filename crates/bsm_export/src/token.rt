@@ -72,7 +72,8 @@ fn is_string(number: u64) -> bool
     if number == 0x23 { true } else { number == 0x28 }
 }
 
-// Where the string of the path or text token at a place stands, without its zero byte.
+// Where the string of the path or text token at a place stands, without its zero byte. It asks `bsm_token_at`, so that `token_at` has
+// one caller and is compiled into it.
 #[no_mangle]
 pub extern "C" fn bsm_text_at(body: &[u8], place: usize) -> BsmPart
     ensures { λ r. ⌜ Stands (now (body .entry)) (stringOf (tokenAt (now (body .entry)) place)) (stringStart (tokenAt (now (body .entry)) place)) r ⌝ }

@@ -17,7 +17,7 @@ struct Extent {
     size: usize,
 }
 
-// A token by its number, its count and ten values.
+// A token by its number, its count and its ten values, 0 for what it does not have.
 fn with(number: u8, count: u64, values: [u64; 10], e: Extent) -> BsmToken
     ensures { λ r. ⌜ r ≡ tokenWith number count values (e .start) (e .length) (e .size) ⌝ }
 {
@@ -35,21 +35,8 @@ fn with(number: u8, count: u64, values: [u64; 10], e: Extent) -> BsmToken
     }
 }
 
-// A token with a count only.
-fn counted(number: u8, count: u64, e: Extent) -> BsmToken
-    ensures { λ r. ⌜ r ≡ foundToken number [] (count ∷ []) (e .start) (e .length) (e .size) ⌝ }
-{
-    with(number, count, [0; 10], e)
-}
-
-fn one(number: u8, x: u64, e: Extent) -> BsmToken
-    ensures { λ r. ⌜ r ≡ foundToken number (x ∷ []) [] (e .start) (e .length) (e .size) ⌝ }
-{
-    with(number, 0, [x, 0, 0, 0, 0, 0, 0, 0, 0, 0], e)
-}
-
-// Two values and a count, 0 for none.
-fn two(number: u8, count: u64, x: u64, y: u64, e: Extent) -> BsmToken
+// A token with a count, one value, two, or a count and two.
+fn few(number: u8, count: u64, x: u64, y: u64, e: Extent) -> BsmToken
     ensures { λ r. ⌜ r ≡ foundToken number (x ∷ y ∷ []) (count ∷ []) (e .start) (e .length) (e .size) ⌝ }
 {
     with(number, count, [x, y, 0, 0, 0, 0, 0, 0, 0, 0], e)
@@ -126,7 +113,7 @@ fn permissions(p: Permissions, e: Extent) -> BsmToken
     with(0x32, 0, values, e)
 }
 
-// A token with its place: one match, so that the compiled code branches once.
+// A token as numbers. One match builds the whole answer, so that the compiled code branches once.
 pub(crate) fn found(token: Token, start: usize, length: usize, size: usize) -> BsmToken
     ensures { λ r. ⌜ r ≡ foundToken (numberOf token) (valuesOf token) (countsOf token) start length size ⌝ }
 {
@@ -136,32 +123,32 @@ pub(crate) fn found(token: Token, start: usize, length: usize, size: usize) -> B
         size: size,
     };
     match token {
-        Token::Path { length: n } => counted(0x23, n as u64, e),
+        Token::Path { length: n } => few(0x23, n as u64, 0, 0, e),
         Token::Subject32(p) => party32(0x24, p, e),
         Token::Process32(p) => party32(0x26, p, e),
-        Token::Return32 { error, value } => two(0x27, 0, error as u64, value as u64, e),
-        Token::Text { length: n } => counted(0x28, n as u64, e),
-        Token::Opaque { length: n } => counted(0x29, n as u64, e),
-        Token::InAddr(a) => one(0x2A, a as u64, e),
+        Token::Return32 { error, value } => few(0x27, 0, error as u64, value as u64, e),
+        Token::Text { length: n } => few(0x28, n as u64, 0, 0, e),
+        Token::Opaque { length: n } => few(0x29, n as u64, 0, 0, e),
+        Token::InAddr(a) => few(0x2A, 0, a as u64, 0, e),
         Token::Ip(h) => ip(h, e),
-        Token::Iport(p) => one(0x2C, p as u64, e),
+        Token::Iport(p) => few(0x2C, 0, p as u64, 0, e),
         Token::Arg32 {
             argument,
             value,
             length: n,
-        } => two(0x2D, n as u64, argument as u64, value as u64, e),
-        Token::Seq(n) => one(0x2F, n as u64, e),
+        } => few(0x2D, n as u64, argument as u64, value as u64, e),
+        Token::Seq(n) => few(0x2F, 0, n as u64, 0, e),
         Token::IpcPerm(p) => permissions(p, e),
-        Token::Newgroups { count } => counted(0x3B, count as u64, e),
-        Token::ExecArgs { count } => counted(0x3C, count as u64, e),
-        Token::ExecEnv { count } => counted(0x3D, count as u64, e),
-        Token::Exit { status, value } => two(0x52, 0, status as u64, value as u64, e),
+        Token::Newgroups { count } => few(0x3B, count as u64, 0, 0, e),
+        Token::ExecArgs { count } => few(0x3C, count as u64, 0, 0, e),
+        Token::ExecEnv { count } => few(0x3D, count as u64, 0, 0, e),
+        Token::Exit { status, value } => few(0x52, 0, status as u64, value as u64, e),
         Token::Arg64 {
             argument,
             value,
             length: n,
-        } => two(0x71, n as u64, argument as u64, value, e),
-        Token::Return64 { error, value } => two(0x72, 0, error as u64, value, e),
+        } => few(0x71, n as u64, argument as u64, value, e),
+        Token::Return64 { error, value } => few(0x72, 0, error as u64, value, e),
         Token::Subject64(p) => party64(0x75, p, e),
         Token::Process64(p) => party64(0x77, p, e),
     }
