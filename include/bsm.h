@@ -85,7 +85,8 @@ bsm_outcome bsm_run(const uint8_t *trail, size_t length, size_t place, size_t re
 
 enum { BSM_NO_TOKEN = 0, BSM_TOKEN = 1, BSM_TOKEN_REFUSED = 3 };
 
-/* The answer at a place of a body. Fields that the kind or the token does not have are 0. */
+/* The answer at a place of a body. Fields that the kind or the token does not have are 0, but for `start`: in a token that has
+   nothing behind its fixed part it is the place where the token ends. */
 typedef struct {
     uint64_t kind;      /* BSM_NO_TOKEN at the end, BSM_TOKEN, or BSM_TOKEN_REFUSED */
     uint64_t token;     /* the token's number */
