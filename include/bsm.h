@@ -6,14 +6,14 @@
  * must not overlap another buffer of the same call. Nothing is kept between calls. A refusal has the numbers of the build
  * specification (paper 01):
  *
- *    1  short: `need` bytes must stand at the item's start     7  a token does not end at or before its body's end
- *    2  place beyond the buffer, or totals above the place     8  bad text, or file name over 1,024 bytes
+ *    1  short: `need` bytes must stand at the item's start     7  a token runs past its body's end
+ *    2  place beyond the buffer, or totals above the place     8  bad text, or too long a file name
  *    3  first byte is no item's                                9  microseconds or nanoseconds out of range
  *    4  record length out of bounds                           10  destination too small
  *    5  no trailer with this length                           11  value too large for its field
  *    6  not a body token's number
  *
- * Where a `number` field is 0, nothing was refused. A refused write leaves the destination as it stood.
+ * Where a `number` field is 0, nothing was refused. What is refused is not written, not even in part.
  */
 #ifndef BSM_H
 #define BSM_H

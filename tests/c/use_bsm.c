@@ -197,7 +197,7 @@ static void list_trail(void)
     assert(cut.written == 0 && cut.number == 1 && cut.place == second_place && cut.need == 5);
 }
 
-/* A refused write leaves every byte as it stood; an accepted one changes only what it says it wrote. */
+/* Refused writers change no byte, others none beyond their count. */
 static void guard_bytes(void)
 {
     uint8_t d[64], before[64];

@@ -70,7 +70,7 @@
 //! use bsm::{item_at, tokens, write_record, write_token};
 //! use bsm::{Header, HeaderKind, Item, NewToken, Token};
 //!
-//! // Each writer is given the rest of a larger buffer.
+//! // Each token goes behind the one before.
 //! let mut body = [0; 100];
 //! let mut used = 0;
 //! for token in [

@@ -12,7 +12,7 @@ pub enum Reason {
     /// from its start on.
     Short = 1,
     /// 2: the place lies behind the buffer's end, or the totals of a state
-    /// add up to more than its place.
+    /// exceed its place together.
     Place = 2,
     /// 3: no item begins with this byte.
     NotAnItem = 3,
@@ -28,9 +28,9 @@ pub enum Reason {
     BadText = 8,
     /// 9: microseconds over 999,999 or nanoseconds over 999,999,999.
     TimeRange = 9,
-    /// 10: the destination is smaller than what is to be written.
+    /// 10: too little room in the destination.
     NoRoom = 10,
-    /// 11: a value too large for its field.
+    /// 11: a value that its field cannot hold.
     TooLarge = 11,
 }
 

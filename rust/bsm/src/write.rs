@@ -1,5 +1,5 @@
 //! Writing tokens, file tokens and records at the start of a lent
-//! destination. A refused write leaves the destination as it stood.
+//! destination. What is refused is not written, not even in part.
 
 use crate::item::{Header, HeaderKind};
 use crate::refusal::{written, Refusal};
@@ -157,9 +157,9 @@ pub fn write_file(
 /// bytes it took.
 ///
 /// Refused, in this order, are more than 65,535 bytes in all, times too
-/// large for a header32, nanoseconds over 999,999,999, the body as when
-/// reading, with places counted from the body's start, and a destination
-/// that is too small.
+/// large for a header32, nanoseconds over 999,999,999, the body's first
+/// bad token, at its place in the body, and a destination that is too
+/// small.
 ///
 /// ```
 /// use bsm::{item_at, write_record, Header, HeaderKind, Item};

@@ -44,8 +44,7 @@ fn good_trails_are_accepted_and_written_again() {
     tally.finish_kinds("good trails");
 }
 
-/// Writes an item again from its fields and its body, and the body from its
-/// tokens.
+/// Writes an item from what was read of it, its body token by token.
 fn rewritten(tally: &mut Tally, dst: &mut [u8], item: &bsm::Item<'_>) -> usize {
     let written = match *item {
         bsm::Item::File {
