@@ -3,6 +3,5 @@ pub mod Answers
 pub mod ItemNumbers
 pub mod Places
 pub mod States
-pub mod TokenNumbers
 pub mod Listings
 pub mod Tells

@@ -11,6 +11,7 @@ use borrow.Author.Tests.{leb-true}
 use Rattle.bsm_token.specs.Number.{ifElse, field, fields, sum}
 use Rattle.bsm_token.specs.Layout.{Class, unknown, file, header, trailer, plain as plainClass, text, bytes, groups, strings, rows, rowOf, behind}
 use Rattle.bsm_token.specs.Token.{Fault, notBody, pastEnd, badText, faultNumber, Token, Extent, tokenOf, extentOf, TokenAnswer, token, end as tokenEnd, refusal as tokenRefusal, tokenAt, Walk, tokens, refused as bad, walk}
+use Rattle.bsm_token.specs.Numbers.{flatToken}
 use Rattle.bsm_token.specs.declared.refusal.Refusal.{Refusal}
 use Rattle.bsm_token.proofs.Rows.{every-row}
 use Rattle.bsm_token.proofs.Reader.{token-at, token-numbers}
@@ -26,7 +27,6 @@ use Rattle.bsm_write.proofs.Answers.{token-refusals, file-refusals, record-refu
 use Rattle.bsm_listing.specs.Line.{itemLine}
 use Rattle.bsm_listing.specs.Listing.{Cursor, first, at, done}
 use Rattle.bsm_export.specs.Items.{flatFound, flatItem, stateAt, stoppedBy, flatOutcome}
-use Rattle.bsm_export.specs.Tokens.{flatToken}
 use Rattle.bsm_export.specs.Written.{flatWritten, flatWalk}
 use Rattle.bsm_export.specs.Lines.{lineAnswer, ItemLined, cursorFrom, flatListing}
 use Rattle.bsm_export.specs.Told.{Tells, NumbersTell}

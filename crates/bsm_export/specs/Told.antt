@@ -6,13 +6,13 @@ use mathlib.Core.Logic.{_≢_}
 use mathlib.Core.List.{List}
 use lib.ListN.{length}
 use Rattle.bsm_token.specs.Token.{Token, Extent, token, tokens, tokenAt, walk}
+use Rattle.bsm_token.specs.Numbers.{flatToken}
 use Rattle.bsm_item.specs.Item.{Head, end, itemAt}
 use Rattle.bsm_item.specs.Reading.{State, plain, stopOf}
 use Rattle.bsm_write.specs.Write.{Plan, code, wrote, answerIn, Given, tokenPlan}
 use Rattle.bsm_write.specs.Items.{filePlan, recordPlan}
 use Rattle.bsm_listing.specs.Listing.{Cursor}
 use Rattle.bsm_export.specs.Items.{flatItem, stateAt, flatOutcome}
-use Rattle.bsm_export.specs.Tokens.{flatToken}
 use Rattle.bsm_export.specs.Written.{flatWalk, Exported}
 use Rattle.bsm_export.specs.Lines.{lineAnswer, ItemLined, cursorFrom, flatListing}
 use Rattle.bsm_export.specs.declared.answer.BsmWritten.{BsmWritten}

@@ -9,4 +9,3 @@ pub mod state;
 pub mod tail;
 pub mod text;
 pub mod token;
-mod values;

@@ -1,5 +1,4 @@
 -- `token::bsm_token_at` meets its contract. Assumes nothing.
-use Rattle.bsm_export.proofs.TokenNumbers.{found-flat, end-flat, refused-flat}
 use borrow.Author.Needs.{needs}
 use Rattle.bsm_export.proofs.token.bsm_token_at.Statement.{statement}
 use Rattle.bsm_export.proofs.token.bsm_token_at.Tie as tie
@@ -9,13 +8,4 @@ bsm-token-at-spec =
     tie.close
     (tie.spec
     (λ c κs. search needs)
-    (λ c. search needs)
-    (λ c κs. search needs)
-    (λ c. search needs)
-    (λ c κs. search needs)
-    (λ c κs. search needs)
-    (λ c. search needs)
-    (λ c κs. search needs)
-    (λ c. search (found-flat, needs))
-    (λ c. search (end-flat, needs))
-    (λ c. search (refused-flat, needs)))
+    (λ c. search needs))
