@@ -9,8 +9,8 @@ use lib.Seq.{drop-drop, length-take-le}
 use Rattle.bsm_token.specs.Number.{field, sum}
 use Rattle.bsm_token.specs.Layout.{rows, rowIn, rowOf, before, behind, layout, fixed}
 use Rattle.bsm_token.specs.Token.{Token, Extent, extentOf, TokenAnswer, token, end as tokenEnd, refusal as tokenRefusal, tokenAt, hasString, stringOf}
-use Rattle.bsm_token.specs.Numbers.{flatToken}
-use Rattle.bsm_token.specs.declared.numbers.TokenNumbers.{TokenNumbers}
+use Rattle.bsm_token.specs.Flat.{flatToken}
+use Rattle.bsm_token.specs.declared.flat.FlatToken.{FlatToken}
 use Rattle.bsm_token.specs.declared.refusal.Refusal.{Refusal}
 use Rattle.bsm_token.proofs.Reader.{token-at}
 use Rattle.bsm_token.proofs.Tokens.{size-some, tail-take, tail-length}
@@ -145,7 +145,7 @@ tail-stands s p {t} {x} f e =
     })
 
 -- r is the answer at p, and b says whether it is a path or a text; at the end and for a refusal its numbers are 0
-module _ (s : List ℕ) (p : ℕ) (r : TokenNumbers) (e : r ≡ flatToken (tokenAt s p)) (b : Bool) (g : b ≡ hasString (r .token)) where
+module _ (s : List ℕ) (p : ℕ) (r : FlatToken) (e : r ≡ flatToken (tokenAt s p)) (b : Bool) (g : b ≡ hasString (r .token)) where
   has : {v : Bool} {t : Token} {x : Extent} → b ≡ v → tokenAt s p ≡ token t x → hasString (t .number) ≡ v
   unfolding flatToken
   has h f = ap (λ a. hasString (flatToken a .token)) (sym f) ∙ ap (λ y. hasString (y .token)) (sym e) ∙ sym g ∙ h

@@ -11,7 +11,7 @@ use borrow.Author.Tests.{leb-true}
 use Rattle.bsm_token.specs.Number.{ifElse, field, fields, sum}
 use Rattle.bsm_token.specs.Layout.{Class, unknown, file, header, trailer, plain as plainClass, text, bytes, groups, strings, rows, rowOf, behind}
 use Rattle.bsm_token.specs.Token.{Fault, notBody, pastEnd, badText, faultNumber, Token, Extent, tokenOf, extentOf, TokenAnswer, token, end as tokenEnd, refusal as tokenRefusal, tokenAt, Walk, tokens, refused as bad, walk}
-use Rattle.bsm_token.specs.Numbers.{flatToken}
+use Rattle.bsm_token.specs.Flat.{flatToken}
 use Rattle.bsm_token.specs.declared.refusal.Refusal.{Refusal}
 use Rattle.bsm_token.proofs.Rows.{every-row}
 use Rattle.bsm_token.proofs.Reader.{token-at, token-numbers}

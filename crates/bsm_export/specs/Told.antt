@@ -6,7 +6,7 @@ use mathlib.Core.Logic.{_≢_}
 use mathlib.Core.List.{List}
 use lib.ListN.{length}
 use Rattle.bsm_token.specs.Token.{Token, Extent, token, tokens, tokenAt, walk}
-use Rattle.bsm_token.specs.Numbers.{flatToken}
+use Rattle.bsm_token.specs.Flat.{flatToken}
 use Rattle.bsm_item.specs.Item.{Head, end, itemAt}
 use Rattle.bsm_item.specs.Reading.{State, plain, stopOf}
 use Rattle.bsm_write.specs.Write.{Plan, code, wrote, answerIn, Given, tokenPlan}

@@ -1,7 +1,7 @@
 // The token at a place of a body, where its text stands, and the tokens of a body.
 ghost use mathlib.Core.Path.{_≡_};
 ghost use Rattle.bsm_token.specs.Token.{hasString, stringOf, tokenAt, walk};
-ghost use Rattle.bsm_token.specs.Numbers.{flatToken};
+ghost use Rattle.bsm_token.specs.Flat.{flatToken};
 ghost use Rattle.bsm_export.specs.Items.{Stands};
 ghost use Rattle.bsm_export.specs.Tokens.{stringStart};
 ghost use Rattle.bsm_export.specs.Written.{flatWalk};
@@ -11,15 +11,15 @@ use crate::answer::told;
 use crate::item::BsmPart;
 use bsm_token::body::BodyRead;
 use bsm_token::body::walk_body;
-use bsm_token::numbers::TokenNumbers;
-use bsm_token::numbers::numbers_at;
+use bsm_token::flat::FlatToken;
+use bsm_token::flat::flat_at;
 
 // The answer at a place of a body: `kind` is 0 at the end, 1 for a token, 3 for a refusal.
 #[no_mangle]
-pub extern "C" fn bsm_token_at(body: &[u8], place: usize) -> TokenNumbers
+pub extern "C" fn bsm_token_at(body: &[u8], place: usize) -> FlatToken
     ensures { λ r. ⌜ r ≡ flatToken (tokenAt (now (body .entry)) place) ⌝ }
 {
-    numbers_at(body, place)
+    flat_at(body, place)
 }
 
 // Whether a token with this number is a path or a text.
@@ -29,7 +29,7 @@ fn is_string(number: u64) -> bool
     if number == 0x23 { true } else { number == 0x28 }
 }
 
-// Where the string of the path or text token at a place stands, without its zero byte. It asks `bsm_token_at`, so that `numbers_at` has
+// Where the string of the path or text token at a place stands, without its zero byte. It asks `bsm_token_at`, so that `flat_at` has
 // one caller and is compiled into it.
 #[no_mangle]
 pub extern "C" fn bsm_text_at(body: &[u8], place: usize) -> BsmPart
