@@ -9,10 +9,8 @@ use crate::answer::no_refusal;
 use bsm_item::item::Header;
 use bsm_item::item::Item;
 use bsm_item::item::ItemRead;
-use bsm_item::item::item_at;
-use bsm_token::number::minus;
+use bsm_item::read::item_at;
 use bsm_token::refusal::Refusal;
-use bsm_token::table::fixed_of;
 
 // The answer at a place: `kind` is 0 at the end, 1 for a file token, 2 for a record, 3 for a refusal. What a kind does not have is 0.
 #[repr(C)]
@@ -26,6 +24,8 @@ pub struct BsmItem {
     pub seconds: u64,
     pub fraction: u64,
     pub tokens: u64,
+    pub start: u64,
+    pub length: u64,
     pub number: u64,
     pub place: u64,
     pub need: u64,
@@ -39,7 +39,7 @@ pub struct BsmPart {
 }
 
 // An item of a kind. A file token has no header but its times.
-fn found(kind: u64, size: usize, h: Header, tokens: usize) -> BsmItem
+fn found(kind: u64, size: usize, h: Header, tokens: usize, start: usize, length: usize) -> BsmItem
     ensures { λ r. ⌜ r ≡ foundItem kind size (h .number) (h .version ∷ h .event ∷ h .modifier ∷ h .seconds ∷ h .nanoseconds ∷ []) tokens ⌝ }
 {
     BsmItem {
@@ -52,6 +52,8 @@ fn found(kind: u64, size: usize, h: Header, tokens: usize) -> BsmItem
         seconds: h.seconds,
         fraction: h.nanoseconds,
         tokens: tokens as u64,
+        start: start as u64,
+        length: length as u64,
         number: 0,
         place: 0,
         need: 0,
@@ -72,6 +74,8 @@ fn no_item(kind: u64, f: Refusal) -> BsmItem
         seconds: 0,
         fraction: 0,
         tokens: 0,
+        start: 0,
+        length: 0,
         number: f.number as u64,
         place: f.place as u64,
         need: f.need as u64,
@@ -87,6 +91,8 @@ pub(crate) fn found_item(item: Item) -> BsmItem
             size,
             seconds,
             microseconds,
+            start,
+            length,
         } => found(
             1,
             size,
@@ -99,12 +105,16 @@ pub(crate) fn found_item(item: Item) -> BsmItem
                 nanoseconds: microseconds as u64,
             },
             0,
+            start,
+            length,
         ),
         Item::Record {
             size,
             header,
             tokens,
-        } => found(2, size, header, tokens),
+            start,
+            length,
+        } => found(2, size, header, tokens, start, length),
     }
 }
 
@@ -137,32 +147,6 @@ fn part(start: usize, n: usize) -> BsmPart
     }
 }
 
-// The body of the record or the name of the file token that stands at a place.
-fn part_of(trail: &[u8], place: usize, item: Item) -> BsmPart
-    requires { ⌜ FoundAt (now trail) place (itemMeant (now trail) place item) ⌝ }
-    ensures { λ r. ⌜ Stands (now (trail .entry)) (partOf (itemMeant (now (trail .entry)) place item)) (place + partStart (itemMeant (now (trail .entry)) place item)) r ⌝ }
-{
-    match item {
-        Item::File {
-            size,
-            seconds: _,
-            microseconds: _,
-        } => {
-            let n = minus(minus(size, 11), 1);
-            part(place + 11, n)
-        }
-        Item::Record {
-            size,
-            header,
-            tokens: _,
-        } => {
-            let h = fixed_of(header.number) as usize;
-            let n = minus(minus(size, 7), h);
-            part(place + h, n)
-        }
-    }
-}
-
 // Where the body of the record at a place stands.
 #[no_mangle]
 pub extern "C" fn bsm_body_at(trail: &[u8], place: usize) -> BsmPart
@@ -174,12 +158,16 @@ pub extern "C" fn bsm_body_at(trail: &[u8], place: usize) -> BsmPart
                 size: _,
                 seconds: _,
                 microseconds: _,
+                start: _,
+                length: _,
             } => part(0, 0),
             Item::Record {
                 size: _,
                 header: _,
                 tokens: _,
-            } => part_of(trail, place, item),
+                start,
+                length,
+            } => part(start, length),
         },
         ItemRead::End => part(0, 0),
         ItemRead::Refused(_) => part(0, 0),
@@ -197,11 +185,15 @@ pub extern "C" fn bsm_name_at(trail: &[u8], place: usize) -> BsmPart
                 size: _,
                 seconds: _,
                 microseconds: _,
-            } => part_of(trail, place, item),
+                start,
+                length,
+            } => part(start, length),
             Item::Record {
                 size: _,
                 header: _,
                 tokens: _,
+                start: _,
+                length: _,
             } => part(0, 0),
         },
         ItemRead::End => part(0, 0),

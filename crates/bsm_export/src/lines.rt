@@ -15,7 +15,7 @@ use crate::answer::flat;
 use crate::answer::no_refusal;
 use crate::answer::told;
 use bsm_item::item::ItemRead;
-use bsm_item::item::item_at;
+use bsm_item::read::item_at;
 use bsm_item::state::State;
 use bsm_listing::line::first_line;
 use bsm_listing::line::item_line;

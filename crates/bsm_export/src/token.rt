@@ -13,6 +13,7 @@ use bsm_token::body::BodyRead;
 use bsm_token::body::walk_body;
 use bsm_token::flat::FlatToken;
 use bsm_token::flat::flat_at;
+use bsm_token::token::has_string;
 
 // The answer at a place of a body: `kind` is 0 at the end, 1 for a token, 3 for a refusal.
 #[no_mangle]
@@ -22,13 +23,6 @@ pub extern "C" fn bsm_token_at(body: &[u8], place: usize) -> FlatToken
     flat_at(body, place)
 }
 
-// Whether a token with this number is a path or a text.
-fn is_string(number: u64) -> bool
-    ensures { λ r. ⌜ r ≡ hasString number ⌝ }
-{
-    if number == 0x23 { true } else { number == 0x28 }
-}
-
 // Where the string of the path or text token at a place stands, without its zero byte. It asks `bsm_token_at`, so that `flat_at` has
 // one caller and is compiled into it.
 #[no_mangle]
@@ -36,7 +30,7 @@ pub extern "C" fn bsm_text_at(body: &[u8], place: usize) -> BsmPart
     ensures { λ r. ⌜ Stands (now (body .entry)) (stringOf (tokenAt (now (body .entry)) place)) (stringStart (tokenAt (now (body .entry)) place)) r ⌝ }
 {
     let t = bsm_token_at(body, place);
-    if is_string(t.token) {
+    if has_string(t.token) {
         BsmPart {
             start: t.start,
             length: t.length,
