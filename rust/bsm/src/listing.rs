@@ -3,6 +3,7 @@
 use crate::refusal::{written, Refusal};
 use crate::state::{state_of, State};
 use crate::sys;
+use crate::unfit::unfit;
 
 /// A buffer of this many bytes holds any line of a listing.
 pub const LINE_MAX: usize = 149;
@@ -111,10 +112,17 @@ pub fn list(out: &mut [u8], trail: &[u8], cursor: Cursor) -> Listed {
     };
     Listed {
         written: told.written as usize,
-        cursor: match told.stage {
-            sys::BSM_LIST_FIRST => Cursor::First,
-            sys::BSM_LIST_AT => Cursor::At(state_of(told.place, told.records, told.files)),
-            _ => Cursor::Done,
-        },
+        cursor: cursor_of(&told),
+    }
+}
+
+/// The cursor that the library told.
+#[inline]
+pub(crate) fn cursor_of(told: &sys::bsm_listing) -> Cursor {
+    match told.stage {
+        sys::BSM_LIST_FIRST => Cursor::First,
+        sys::BSM_LIST_AT => Cursor::At(state_of(told.place, told.records, told.files)),
+        sys::BSM_LIST_DONE => Cursor::Done,
+        _ => unfit("stage", told.stage),
     }
 }
