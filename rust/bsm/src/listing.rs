@@ -5,8 +5,8 @@ use crate::state::{state_of, State};
 use crate::sys;
 use crate::unfit::unfit;
 
-/// A buffer of this many bytes holds any line of a listing.
-pub const LINE_MAX: usize = 149;
+/// Room that suffices for any line of a listing, its line feed included.
+pub const LINE_MAX: usize = sys::BSM_LINE_MAX;
 
 /// Writes a listing's first line and answers how many bytes it took.
 #[inline]
@@ -16,8 +16,9 @@ pub fn first_line(dst: &mut [u8]) -> Result<usize, Refusal> {
 }
 
 /// Writes the line of the item at a place of a trail and answers how many
-/// bytes it took. Where no item stands nothing is written: the refusal, or 0
-/// bytes at the end.
+/// bytes it took. Where no item stands nothing is written, whatever the room:
+/// the answer is the refusal that [`item_at`](crate::item_at) gives there, or
+/// 0 bytes at the trail's end.
 #[inline]
 pub fn item_line(dst: &mut [u8], trail: &[u8], place: usize) -> Result<usize, Refusal> {
     // SAFETY: the pointers and lengths are those of lent slices, and `dst`
@@ -73,8 +74,9 @@ pub struct Listed {
 }
 
 /// Writes as many whole lines of a trail's listing as fit, from a cursor on.
-/// Joined, the parts up to [`Cursor::Done`] are the listing. With a buffer of
-/// [`LINE_MAX`] bytes or more each part before that has a line.
+/// Joined, the parts up to [`Cursor::Done`] are the listing. Where not even
+/// the next line fits, nothing is written and the same cursor is handed back;
+/// that cannot happen with a buffer of [`LINE_MAX`] bytes or more.
 ///
 /// ```
 /// use bsm::{list, Cursor, LINE_MAX};
