@@ -4,7 +4,7 @@ use bsm::{HeaderKind, Reason, Strings};
 use reference as plain;
 
 /// The reasons in the order of their numbers.
-const REASONS: [Reason; 11] = [
+pub(crate) const REASONS: [Reason; 11] = [
     Reason::Short,
     Reason::Place,
     Reason::NotAnItem,

@@ -9,5 +9,6 @@ mod growing;
 mod listing;
 mod places;
 mod program;
+mod soak;
 mod trails;
 mod writers;
