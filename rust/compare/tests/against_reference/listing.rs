@@ -80,9 +80,9 @@ fn longest_lines() {
         &out[..size],
         b"R\t100000000\t65535\t65535\t65535\t18446744073709551615\t999999999\t21833\n"
     );
-    let longest_place = isize::MAX.to_string().len();
-    assert_eq!(size - 9 + longest_place, 77);
-    assert!(77 <= LINE_MAX);
+    let longest = size - 9 + isize::MAX.to_string().len();
+    assert_eq!(longest, 77);
+    assert!(longest <= LINE_MAX);
 
     // The last line names the place that was asked for.
     let far = bsm::State::new(usize::MAX, 0, 0);
