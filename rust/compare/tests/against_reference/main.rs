@@ -5,6 +5,7 @@ mod bodies;
 mod cases;
 mod edges;
 mod face;
+mod failing;
 mod growing;
 mod listing;
 mod places;
