@@ -1,10 +1,10 @@
 /*
  * Reading, writing and listing BSM audit trails: the C face of the proved library.
  *
- * Every function answers for any input: any bytes, any place, any state, any destination. A pointer must not be null, must be
- * aligned for its type, and must point to as many readable (dst, out: writable) elements as the length behind it says; dst and out
- * must not overlap another buffer of the same call. Nothing is kept between calls. A refusal has the numbers of the build
- * specification (paper 01):
+ * Every function answers for any input: any bytes, any place, any state, any destination. A pointer must be aligned for its type
+ * and point to as many readable (dst, out: writable) elements as the length behind it says; dst and out must not overlap another
+ * buffer of the same call. Where that length is 0, nothing is read or written through the pointer, and it may be null. Nothing is
+ * kept between calls. A refusal has the numbers of the build specification (paper 01):
  *
  *    1  short: `need` bytes must stand at the item's start     7  a token runs past its body's end
  *    2  place beyond the buffer, or totals above the place     8  bad text, or too long a file name
@@ -153,10 +153,14 @@ bsm_written bsm_write_record64(uint8_t *dst, size_t room, uint16_t version, uint
 
 /* ---- listing */
 
+/* Room that suffices for any line of a listing, its line feed included. */
+#define BSM_LINE_MAX 149
+
 /* The first line. */
 bsm_written bsm_first_line(uint8_t *dst, size_t room);
 
-/* The line of the item at a place of a trail. Where no item stands there nothing is written: the refusal, or 0 bytes at the end. */
+/* The line of the item at a place of a trail. Where no item stands there nothing is written, whatever the room: the answer is the
+   refusal that bsm_item_at gives there, or, where the trail ends there, number 0 with 0 bytes written. */
 bsm_written bsm_item_line(uint8_t *dst, size_t room, const uint8_t *trail, size_t length, size_t place);
 
 /* The last line of the run from a state. */
@@ -165,8 +169,9 @@ bsm_written bsm_last_line(uint8_t *dst, size_t room, const uint8_t *trail, size_
 enum { BSM_LIST_FIRST = 0, BSM_LIST_AT = 1, BSM_LIST_DONE = 2 };
 
 /* As many whole lines of the listing as fit into out, from a stage on: BSM_LIST_FIRST, or BSM_LIST_AT with a state, as the call
-   before handed them back (any other stage counts as BSM_LIST_DONE: nothing is left). Joined, the outputs up to BSM_LIST_DONE are
-   the listing. */
+   before handed them back (any other stage counts as BSM_LIST_DONE: nothing is left). BSM_LIST_FIRST starts from a fresh state,
+   whatever is given for one. Joined, the outputs up to BSM_LIST_DONE are the listing. Where not even the next line fits, nothing is
+   written, and the same stage and state are handed back; that cannot happen with room for BSM_LINE_MAX bytes or more. */
 typedef struct {
     uint64_t stage;     /* which line comes next */
     uint64_t place;     /* BSM_LIST_AT: its state; otherwise 0 */

@@ -1,5 +1,6 @@
 /* Uses the library from C: writes every kind of token, a file token and two records, reads them back, lists them, and tries
-   destinations that are too small. What it expects is computed from what it wrote. Exit status 0 where every assertion holds. */
+   destinations that are too small and buffers that are not there. What it expects is computed from what it wrote. Exit status 0
+   where every assertion holds. */
 #undef NDEBUG
 #include <assert.h>
 #include <stdio.h>
@@ -190,11 +191,48 @@ static void list_trail(void)
         } while (l.stage != BSM_LIST_DONE);
         assert(joined == n);
     }
-    assert(bsm_list(lines, 9, trail, trail_size, BSM_LIST_FIRST, 0, 0, 0).written == 0);
     assert(bsm_list(lines, sizeof lines, trail, trail_size, 7, 0, 0, 0).stage == BSM_LIST_DONE);
-    assert(accepted(bsm_item_line(REST(lines, 0), trail, trail_size, trail_size), 0));
-    bsm_written cut = bsm_item_line(REST(lines, 0), trail, second_place + 4, second_place);
-    assert(cut.written == 0 && cut.number == 1 && cut.place == second_place && cut.need == 5);
+}
+
+static int listed(bsm_listing l, uint64_t stage, uint64_t place, uint64_t records, uint64_t files, uint64_t written)
+{
+    return l.stage == stage && l.place == place && l.records == records && l.files == files && l.written == written;
+}
+
+/* Room for no line: nothing is written, and the same stage and state come back. */
+static void list_no_line(void)
+{
+    uint8_t out[BSM_LINE_MAX], before[sizeof out];
+    memset(out, 0xA5, sizeof out);
+    memcpy(before, out, sizeof out);
+    size_t line = bsm_item_line(REST(out, 0), trail, trail_size, record_place).written;
+    size_t last = bsm_last_line(REST(out, 0), trail, trail_size, 0, 0, 0).written;
+    memset(out, 0xA5, sizeof out);
+    for (size_t room = 0; room < 10; room++) /* the first line has 10 bytes; a state given with it counts for nothing */
+        assert(listed(bsm_list(out, room, trail, trail_size, BSM_LIST_FIRST, 7, 8, 9), BSM_LIST_FIRST, 0, 0, 0, 0));
+    for (size_t room = 0; room < line; room++)
+        assert(listed(bsm_list(out, room, trail, trail_size, BSM_LIST_AT, record_place, 0, 1), BSM_LIST_AT, record_place, 0, 1, 0));
+    for (size_t room = 0; room < last; room++)
+        assert(listed(bsm_list(out, room, trail, trail_size, BSM_LIST_AT, trail_size, 2, 1), BSM_LIST_AT, trail_size, 2, 1, 0));
+    assert(memcmp(out, before, sizeof out) == 0);
+    assert(listed(bsm_list(out, last, trail, trail_size, BSM_LIST_AT, trail_size, 2, 1), BSM_LIST_DONE, 0, 0, 0, last));
+}
+
+/* Places where no item stands: nothing is written, and the answer is the same with room and without. */
+static void line_of_no_item(void)
+{
+    uint8_t out[BSM_LINE_MAX], before[sizeof out];
+    memset(out, 0xA5, sizeof out);
+    memcpy(before, out, sizeof out);
+    for (size_t room = 0; room <= sizeof out; room += sizeof out) {
+        assert(accepted(bsm_item_line(out, room, trail, trail_size, trail_size), 0));
+        bsm_written cut = bsm_item_line(out, room, trail, second_place + 4, second_place);
+        assert(cut.written == 0 && cut.number == 1 && cut.place == second_place && cut.need == 5);
+        assert(refused(bsm_item_line(out, room, trail, trail_size, trail_size + 1), 2, trail_size + 1));
+        assert(refused(bsm_item_line(out, room, trail, trail_size, 1), 3, 1));
+    }
+    assert(memcmp(out, before, sizeof out) == 0);
+    assert(refused(bsm_item_line(out, 10, trail, trail_size, record_place), 10, 0));
 }
 
 /* Refused writers change no byte, others none beyond their count. */
@@ -217,6 +255,105 @@ static void guard_bytes(void)
     assert(memcmp(d, before, 8) == 0 && memcmp(d + 17, before + 17, sizeof d - 17) == 0);
 }
 
+/* A null pointer with length 0 stands for nothing, in every parameter of every function. */
+#define NOTHING NULL, 0
+
+static void read_nothing(void)
+{
+    assert(bsm_item_at(NOTHING, 0).kind == BSM_END);
+    bsm_item beyond = bsm_item_at(NOTHING, 1);
+    assert(beyond.kind == BSM_REFUSED && beyond.number == 2 && beyond.place == 1 && beyond.need == 0);
+    bsm_step s = bsm_next(NOTHING, 0, 0, 0), high = bsm_next(NOTHING, 0, 1, 0);
+    assert(s.item.kind == BSM_END && s.place == 0 && s.records == 0 && s.files == 0);
+    assert(high.item.kind == BSM_REFUSED && high.item.number == 2 && high.records == 1);
+    bsm_outcome o = bsm_run(NOTHING, 0, 0, 0), far = bsm_run(NOTHING, 5, 0, 0);
+    assert(o.place == 0 && o.records == 0 && o.files == 0 && o.number == 0);
+    assert(far.place == 5 && far.number == 2 && far.at == 5);
+
+    assert(bsm_token_at(NOTHING, 0).kind == BSM_NO_TOKEN);
+    bsm_token t = bsm_token_at(NOTHING, 1);
+    assert(t.kind == BSM_TOKEN_REFUSED && t.number == 2 && t.place == 1);
+    assert(accepted(bsm_walk_body(NOTHING), 0));
+    for (size_t place = 0; place < 2; place++) {
+        assert(same_part(bsm_body_at(NOTHING, place), 0, 0));
+        assert(same_part(bsm_name_at(NOTHING, place), 0, 0));
+        assert(same_part(bsm_text_at(NOTHING, place), 0, 0));
+    }
+}
+
+/* Every writer without a destination, with all it needs and, where it takes a buffer, with none. */
+static void write_into_nothing(void)
+{
+    const uint32_t group = 1;
+    assert(refused(bsm_write_path(NOTHING, TEXT("/")), 10, 0) && refused(bsm_write_path(NOTHING, NOTHING), 10, 0));
+    assert(refused(bsm_write_text(NOTHING, TEXT("t")), 10, 0) && refused(bsm_write_text(NOTHING, NOTHING), 10, 0));
+    assert(refused(bsm_write_opaque(NOTHING, TEXT("o")), 10, 0) && refused(bsm_write_opaque(NOTHING, NOTHING), 10, 0));
+    assert(refused(bsm_write_subject32(NOTHING, 1, 2, 3, 4, 5, 6, 7, 8, 9), 10, 0));
+    assert(refused(bsm_write_process32(NOTHING, 1, 2, 3, 4, 5, 6, 7, 8, 9), 10, 0));
+    assert(refused(bsm_write_subject64(NOTHING, 1, 2, 3, 4, 5, 6, 7, 8, 9), 10, 0));
+    assert(refused(bsm_write_process64(NOTHING, 1, 2, 3, 4, 5, 6, 7, 8, 9), 10, 0));
+    assert(refused(bsm_write_return32(NOTHING, 1, 2), 10, 0));
+    assert(refused(bsm_write_return64(NOTHING, 1, 2), 10, 0));
+    assert(refused(bsm_write_in_addr(NOTHING, 1), 10, 0));
+    assert(refused(bsm_write_ip(NOTHING, 1, 2, 3, 4, 5, 6, 7, 8, 9, 10), 10, 0));
+    assert(refused(bsm_write_iport(NOTHING, 1), 10, 0));
+    assert(refused(bsm_write_arg32(NOTHING, 1, 2, TEXT("a")), 10, 0) && refused(bsm_write_arg32(NOTHING, 1, 2, NOTHING), 10, 0));
+    assert(refused(bsm_write_arg64(NOTHING, 1, 2, TEXT("a")), 10, 0) && refused(bsm_write_arg64(NOTHING, 1, 2, NOTHING), 10, 0));
+    assert(refused(bsm_write_seq(NOTHING, 1), 10, 0));
+    assert(refused(bsm_write_ipc_perm(NOTHING, 1, 2, 3, 4, 5, 6, 7), 10, 0));
+    assert(refused(bsm_write_newgroups(NOTHING, &group, 1), 10, 0) && refused(bsm_write_newgroups(NOTHING, NOTHING), 10, 0));
+    assert(refused(bsm_write_exec_args(NOTHING, 1, TEXT("a\0")), 10, 0) && refused(bsm_write_exec_args(NOTHING, 0, NOTHING), 10, 0));
+    assert(refused(bsm_write_exec_env(NOTHING, 1, TEXT("a\0")), 10, 0) && refused(bsm_write_exec_env(NOTHING, 0, NOTHING), 10, 0));
+    assert(refused(bsm_write_exit(NOTHING, 1, 2), 10, 0));
+    assert(refused(bsm_write_file(NOTHING, 1, 2, TEXT("f")), 10, 0) && refused(bsm_write_file(NOTHING, 1, 2, NOTHING), 10, 0));
+    assert(refused(bsm_write_record32(NOTHING, 1, 2, 3, 4, 5, body, body_size), 10, 0));
+    assert(refused(bsm_write_record64(NOTHING, 1, 2, 3, 4, 5, body, body_size), 10, 0));
+    assert(refused(bsm_write_record32(NOTHING, 1, 2, 3, 4, 5, NOTHING), 10, 0));
+    assert(refused(bsm_write_record64(NOTHING, 1, 2, 3, 4, 5, NOTHING), 10, 0));
+    /* A refusal that comes before 10 is still the answer. */
+    assert(refused(bsm_write_text(NOTHING, TEXT("\0")), 8, 0) && refused(bsm_write_file(NOTHING, 1, 1000000, NOTHING), 9, 0));
+}
+
+/* Every writer that takes a buffer, with none. */
+static void write_nothing(void)
+{
+    uint8_t d[40];
+    const size_t n = sizeof d;
+    assert(accepted(bsm_write_path(d, n, NOTHING), 4) && memcmp(d, "\x23\0\1\0", 4) == 0);
+    assert(accepted(bsm_write_text(d, n, NOTHING), 4) && memcmp(d, "\x28\0\1\0", 4) == 0);
+    assert(accepted(bsm_write_opaque(d, n, NOTHING), 3) && memcmp(d, "\x29\0\0", 3) == 0);
+    assert(accepted(bsm_write_arg32(d, n, 1, 2, NOTHING), 9) && memcmp(d, "\x2D\1\0\0\0\2\0\1\0", 9) == 0);
+    assert(accepted(bsm_write_arg64(d, n, 1, 2, NOTHING), 13) && memcmp(d, "\x71\1\0\0\0\0\0\0\0\2\0\1\0", 13) == 0);
+    assert(accepted(bsm_write_newgroups(d, n, NOTHING), 3) && memcmp(d, "\x3B\0\0", 3) == 0);
+    assert(accepted(bsm_write_exec_args(d, n, 0, NOTHING), 5) && memcmp(d, "\x3C\0\0\0\0", 5) == 0);
+    assert(accepted(bsm_write_exec_env(d, n, 0, NOTHING), 5) && memcmp(d, "\x3D\0\0\0\0", 5) == 0);
+    assert(refused(bsm_write_exec_args(d, n, 1, NOTHING), 8, 0) && refused(bsm_write_exec_env(d, n, 1, NOTHING), 8, 0));
+    assert(accepted(bsm_write_file(d, n, 1, 2, NOTHING), 12) && memcmp(d + 9, "\0\1\0", 3) == 0);
+    assert(accepted(bsm_write_record32(d, n, 1, 2, 3, 4, 5, NOTHING), 26) && bsm_item_at(d, 26, 0).kind == BSM_RECORD);
+    assert(accepted(bsm_write_record64(d, n, 1, 2, 3, 4, 5, NOTHING), 34) && bsm_item_at(d, 34, 0).kind == BSM_RECORD);
+}
+
+static void list_nothing(void)
+{
+    uint8_t d[BSM_LINE_MAX];
+    const size_t n = sizeof d;
+    assert(refused(bsm_first_line(NOTHING), 10, 0));
+    assert(accepted(bsm_item_line(NOTHING, NOTHING, 0), 0) && refused(bsm_item_line(NOTHING, NOTHING, 1), 2, 1));
+    assert(accepted(bsm_item_line(d, n, NOTHING, 0), 0) && refused(bsm_item_line(d, n, NOTHING, 1), 2, 1));
+    assert(refused(bsm_item_line(NOTHING, trail, trail_size, 0), 10, 0));
+    assert(refused(bsm_last_line(NOTHING, NOTHING, 0, 0, 0), 10, 0));
+    assert(refused(bsm_last_line(NOTHING, trail, trail_size, 0, 0, 0), 10, 0));
+    assert(accepted(bsm_last_line(d, n, NOTHING, 0, 0, 0), 6) && memcmp(d, "E\t0\t0\n", 6) == 0);
+    assert(accepted(bsm_last_line(d, n, NOTHING, 3, 0, 0), 8) && memcmp(d, "X\t2\t3\t0\n", 8) == 0);
+
+    assert(listed(bsm_list(NOTHING, NOTHING, BSM_LIST_FIRST, 0, 0, 0), BSM_LIST_FIRST, 0, 0, 0, 0));
+    assert(listed(bsm_list(NOTHING, NOTHING, BSM_LIST_AT, 0, 0, 0), BSM_LIST_AT, 0, 0, 0, 0));
+    assert(listed(bsm_list(NOTHING, NOTHING, BSM_LIST_DONE, 0, 0, 0), BSM_LIST_DONE, 0, 0, 0, 0));
+    assert(listed(bsm_list(NOTHING, trail, trail_size, BSM_LIST_AT, 20, 0, 1), BSM_LIST_AT, 20, 0, 1, 0));
+    assert(listed(bsm_list(d, n, NOTHING, BSM_LIST_FIRST, 0, 0, 0), BSM_LIST_DONE, 0, 0, 0, 16));
+    assert(memcmp(d, "bsmlist\t1\nE\t0\t0\n", 16) == 0);
+}
+
 int main(void)
 {
     write_texts();
@@ -227,7 +364,13 @@ int main(void)
     read_items();
     read_trail();
     list_trail();
+    list_no_line();
+    line_of_no_item();
     guard_bytes();
+    read_nothing();
+    write_into_nothing();
+    write_nothing();
+    list_nothing();
     puts("bsm from C: ok");
     return 0;
 }

@@ -2,9 +2,11 @@
 
 use crate::refusal::Refusal;
 use crate::sys;
+use crate::unfit::unfit;
 
-/// Which of the two headers a record has.
+/// Which of the two headers a record has. Later versions may have more.
 #[derive(Clone, Copy, Debug, PartialEq, Eq, Hash)]
+#[non_exhaustive]
 pub enum HeaderKind {
     /// 14, times of 4 bytes.
     Header32,
@@ -22,6 +24,16 @@ impl HeaderKind {
         }
     }
 
+    /// The header with a number that the library gave.
+    #[inline]
+    pub(crate) fn of(number: u64) -> Self {
+        match number {
+            0x14 => HeaderKind::Header32,
+            0x74 => HeaderKind::Header64,
+            _ => unfit("header", number),
+        }
+    }
+
     /// The header's size in bytes.
     #[inline]
     const fn size(self) -> usize {
@@ -33,8 +45,18 @@ impl HeaderKind {
 }
 
 /// A record's header, as read and as given to
-/// [`write_record`](crate::write_record).
+/// [`write_record`](crate::write_record). Later versions may have more
+/// fields, so that other crates start from [`Header::new`].
+///
+/// ```
+/// use bsm::{Header, HeaderKind};
+///
+/// let mut header = Header::new(HeaderKind::Header32);
+/// header.event = 6152;
+/// assert_eq!((header.event, header.seconds), (6152, 0));
+/// ```
 #[derive(Clone, Copy, Debug, PartialEq, Eq, Hash)]
+#[non_exhaustive]
 pub struct Header {
     /// Which header.
     pub kind: HeaderKind,
@@ -48,6 +70,21 @@ pub struct Header {
     pub seconds: u64,
     /// Nanoseconds of the time stamp.
     pub nanoseconds: u64,
+}
+
+impl Header {
+    /// A header of this kind with zeros in all its fields.
+    #[inline]
+    pub const fn new(kind: HeaderKind) -> Self {
+        Header {
+            kind,
+            version: 0,
+            event: 0,
+            modifier: 0,
+            seconds: 0,
+            nanoseconds: 0,
+        }
+    }
 }
 
 /// An accepted item, borrowed from its trail.
@@ -143,10 +180,7 @@ pub(crate) fn found<'a>(
             name: inner(trail, place, size, 11, 1),
         })),
         sys::BSM_RECORD => {
-            let kind = match answer.header {
-                0x14 => HeaderKind::Header32,
-                _ => HeaderKind::Header64,
-            };
+            let kind = HeaderKind::of(answer.header);
             Ok(Some(Item::Record {
                 size,
                 header: Header {
@@ -161,7 +195,8 @@ pub(crate) fn found<'a>(
                 tokens: answer.tokens as usize,
             }))
         }
-        _ => Err(Refusal::of(answer.number, answer.place, answer.need)),
+        sys::BSM_REFUSED => Err(Refusal::of(answer.number, answer.place, answer.need)),
+        _ => unfit("item kind", answer.kind),
     }
 }
 
@@ -178,10 +213,11 @@ fn inner(trail: &[u8], place: usize, size: usize, before: usize, behind: usize) 
 /// where it is there.
 #[inline]
 pub(crate) fn part(bytes: &[u8], start: usize, length: usize) -> &[u8] {
-    bytes
-        .get(start..)
-        .and_then(|rest| rest.get(..length))
-        .unwrap_or_default()
+    let rest = bytes.get(start..);
+    match rest.and_then(|rest| rest.get(..length)) {
+        Some(part) => part,
+        None => unfit("a part from", start as u64),
+    }
 }
 
 /// A part that the library told; the one at 0 with length 0 is none.

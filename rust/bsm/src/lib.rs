@@ -1,6 +1,10 @@
 //! Reads, writes and lists BSM audit trails: a safe face, without `std` and
 //! without allocation, on a library that is proved to answer as paper 01
-//! says. Every call answers for every input, and none panics.
+//! says. Every call answers for every input.
+//!
+//! None panics with the archive that this version was written for. Should
+//! another archive be linked and tell a number that is not known here, the
+//! call panics and says so: an answer must not pass for another one.
 //!
 //! A trail is a run of items: file tokens and records. A record's body is a
 //! run of tokens. What is not accepted is a [`Refusal`] with its [`Reason`].
@@ -79,14 +83,11 @@
 //! ] {
 //!     used += write_token(&mut body[used..], &token)?;
 //! }
-//! let header = Header {
-//!     kind: HeaderKind::Header64,
-//!     version: 11,
-//!     event: 6152,
-//!     modifier: 0,
-//!     seconds: 1_700_000_000,
-//!     nanoseconds: 999_999_999,
-//! };
+//! let mut header = Header::new(HeaderKind::Header64);
+//! header.version = 11;
+//! header.event = 6152;
+//! header.seconds = 1_700_000_000;
+//! header.nanoseconds = 999_999_999;
 //! let mut trail = [0; 200];
 //! let size = write_record(&mut trail, &header, &body[..used])?;
 //!
@@ -114,6 +115,7 @@ mod state;
 pub mod sys;
 mod token;
 mod token_read;
+mod unfit;
 mod write;
 
 pub use item::{body_at, item_at, name_at, Header, HeaderKind, Item};

@@ -3,9 +3,10 @@
 use crate::refusal::{written, Refusal};
 use crate::state::{state_of, State};
 use crate::sys;
+use crate::unfit::unfit;
 
-/// A buffer of this many bytes holds any line of a listing.
-pub const LINE_MAX: usize = 149;
+/// Room that suffices for any line of a listing, its line feed included.
+pub const LINE_MAX: usize = sys::BSM_LINE_MAX;
 
 /// Writes a listing's first line and answers how many bytes it took.
 #[inline]
@@ -15,8 +16,9 @@ pub fn first_line(dst: &mut [u8]) -> Result<usize, Refusal> {
 }
 
 /// Writes the line of the item at a place of a trail and answers how many
-/// bytes it took. Where no item stands nothing is written: the refusal, or 0
-/// bytes at the end.
+/// bytes it took. Where no item stands nothing is written, whatever the room:
+/// the answer is the refusal that [`item_at`](crate::item_at) gives there, or
+/// 0 bytes at the trail's end.
 #[inline]
 pub fn item_line(dst: &mut [u8], trail: &[u8], place: usize) -> Result<usize, Refusal> {
     // SAFETY: the pointers and lengths are those of lent slices, and `dst`
@@ -72,8 +74,9 @@ pub struct Listed {
 }
 
 /// Writes as many whole lines of a trail's listing as fit, from a cursor on.
-/// Joined, the parts up to [`Cursor::Done`] are the listing. With a buffer of
-/// [`LINE_MAX`] bytes or more each part before that has a line.
+/// Joined, the parts up to [`Cursor::Done`] are the listing. Where not even
+/// the next line fits, nothing is written and the same cursor is handed back;
+/// that cannot happen with a buffer of [`LINE_MAX`] bytes or more.
 ///
 /// ```
 /// use bsm::{list, Cursor, LINE_MAX};
@@ -111,10 +114,17 @@ pub fn list(out: &mut [u8], trail: &[u8], cursor: Cursor) -> Listed {
     };
     Listed {
         written: told.written as usize,
-        cursor: match told.stage {
-            sys::BSM_LIST_FIRST => Cursor::First,
-            sys::BSM_LIST_AT => Cursor::At(state_of(told.place, told.records, told.files)),
-            _ => Cursor::Done,
-        },
+        cursor: cursor_of(&told),
+    }
+}
+
+/// The cursor that the library told.
+#[inline]
+pub(crate) fn cursor_of(told: &sys::bsm_listing) -> Cursor {
+    match told.stage {
+        sys::BSM_LIST_FIRST => Cursor::First,
+        sys::BSM_LIST_AT => Cursor::At(state_of(told.place, told.records, told.files)),
+        sys::BSM_LIST_DONE => Cursor::Done,
+        _ => unfit("stage", told.stage),
     }
 }

@@ -38,11 +38,7 @@ impl Reader {
     /// A reader at the start of a trail.
     #[inline]
     pub const fn new() -> Self {
-        Reader::at(State {
-            place: 0,
-            records: 0,
-            files: 0,
-        })
+        Reader::at(State::new(0, 0, 0))
     }
 
     /// A reader that goes on from a state.

@@ -1,11 +1,14 @@
 //! Refusals and their numbers (paper 01, 'Refusal numbers').
 
 use crate::sys;
+use crate::unfit::unfit;
 use core::error::Error;
 use core::fmt;
 
-/// Why something was refused. The numbers are those of paper 01.
+/// Why something was refused. The numbers are those of paper 01; later
+/// versions may have more.
 #[derive(Clone, Copy, Debug, PartialEq, Eq, Hash)]
+#[non_exhaustive]
 #[repr(u8)]
 pub enum Reason {
     /// 1: the item is not all there yet; [`Refusal::need`] bytes must stand
@@ -42,7 +45,7 @@ impl Reason {
     }
 
     /// The reason for a number that the library gave.
-    pub(crate) const fn of(number: u64) -> Self {
+    pub(crate) fn of(number: u64) -> Self {
         match number {
             1 => Reason::Short,
             2 => Reason::Place,
@@ -54,8 +57,8 @@ impl Reason {
             8 => Reason::BadText,
             9 => Reason::TimeRange,
             10 => Reason::NoRoom,
-            // 11; the library has no other number.
-            _ => Reason::TooLarge,
+            11 => Reason::TooLarge,
+            _ => unfit("refusal", number),
         }
     }
 }
@@ -99,7 +102,7 @@ pub struct Refusal {
 
 impl Refusal {
     /// A refusal as the library told it.
-    pub(crate) const fn of(number: u64, place: u64, need: u64) -> Self {
+    pub(crate) fn of(number: u64, place: u64, need: u64) -> Self {
         Refusal {
             reason: Reason::of(number),
             place: place as usize,

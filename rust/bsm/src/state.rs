@@ -4,8 +4,10 @@ use crate::item::{found, Item};
 use crate::refusal::{Reason, Refusal};
 use crate::sys;
 
-/// Where a reading stands. The default is a fresh state.
+/// Where a reading stands. The default is a fresh state. Later versions may
+/// have more fields, so that other crates make one with [`State::new`].
 #[derive(Clone, Copy, Debug, Default, PartialEq, Eq, Hash)]
+#[non_exhaustive]
 pub struct State {
     /// Where the next item starts.
     pub place: usize,
@@ -13,6 +15,18 @@ pub struct State {
     pub records: usize,
     /// File tokens read so far.
     pub files: usize,
+}
+
+impl State {
+    /// The state at `place` with these totals.
+    #[inline]
+    pub const fn new(place: usize, records: usize, files: usize) -> Self {
+        State {
+            place,
+            records,
+            files,
+        }
+    }
 }
 
 /// What a step from a state finds.
@@ -110,9 +124,5 @@ pub fn run(trail: &[u8], state: State) -> Run {
 
 #[inline]
 pub(crate) fn state_of(place: u64, records: u64, files: u64) -> State {
-    State {
-        place: place as usize,
-        records: records as usize,
-        files: files as usize,
-    }
+    State::new(place as usize, records as usize, files as usize)
 }

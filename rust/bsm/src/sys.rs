@@ -1,5 +1,6 @@
 //! The functions of `include/bsm.h` as C sees them. Every one answers for
-//! any numbers and any lent parts; a pointer must not be null.
+//! any numbers and any lent parts; a pointer may be null where the length
+//! behind it is 0.
 
 #![allow(non_camel_case_types, missing_docs)]
 
@@ -15,6 +16,8 @@ pub const BSM_TOKEN_REFUSED: u64 = 3;
 pub const BSM_LIST_FIRST: u64 = 0;
 pub const BSM_LIST_AT: u64 = 1;
 pub const BSM_LIST_DONE: u64 = 2;
+
+pub const BSM_LINE_MAX: usize = 149;
 
 #[repr(C)]
 #[derive(Clone, Copy, Debug, Default, PartialEq, Eq)]

@@ -71,8 +71,10 @@ pub struct IpcPerm {
 }
 
 /// A body token. One that was read borrows its texts, bytes, groups and
-/// strings from the body; one to be written is a [`NewToken`].
+/// strings from the body; one to be written is a [`NewToken`]. Later
+/// versions may have more kinds.
 #[derive(Clone, Copy, Debug, PartialEq, Eq, Hash)]
+#[non_exhaustive]
 pub enum Token<'a, G = Groups<'a>> {
     /// 23, path.
     Path {

@@ -5,6 +5,7 @@ use crate::parts::{Groups, Strings};
 use crate::refusal::{written, Refusal};
 use crate::sys;
 use crate::token::{IpHeader, IpcPerm, Party, Token};
+use crate::unfit::unfit;
 use core::iter::FusedIterator;
 
 /// A token and its size.
@@ -33,14 +34,7 @@ pub struct TokenAt<'a> {
 pub fn token_at(body: &[u8], place: usize) -> Result<Option<TokenAt<'_>>, Refusal> {
     // SAFETY: the pointer and the length are those of a lent slice.
     let told = unsafe { sys::bsm_token_at(body.as_ptr(), body.len(), place) };
-    match told.kind {
-        sys::BSM_NO_TOKEN => Ok(None),
-        sys::BSM_TOKEN => Ok(Some(TokenAt {
-            token: token_of(body, &told),
-            size: told.size as usize,
-        })),
-        _ => Err(Refusal::of(told.number, told.place, told.need)),
-    }
+    told_token(body, &told)
 }
 
 /// The string of the path or text token at a place without its zero byte;
@@ -119,6 +113,23 @@ impl<'a> Iterator for Tokens<'a> {
 
 impl FusedIterator for Tokens<'_> {}
 
+/// The answer at a place of `body`.
+#[inline]
+pub(crate) fn told_token<'a>(
+    body: &'a [u8],
+    told: &sys::bsm_token,
+) -> Result<Option<TokenAt<'a>>, Refusal> {
+    match told.kind {
+        sys::BSM_NO_TOKEN => Ok(None),
+        sys::BSM_TOKEN => Ok(Some(TokenAt {
+            token: token_of(body, told),
+            size: told.size as usize,
+        })),
+        sys::BSM_TOKEN_REFUSED => Err(Refusal::of(told.number, told.place, told.need)),
+        _ => unfit("token kind", told.kind),
+    }
+}
+
 /// A token that was found, with its part of the body.
 #[inline]
 fn token_of<'a>(body: &'a [u8], told: &sys::bsm_token) -> Token<'a> {
@@ -155,6 +166,10 @@ fn token_of<'a>(body: &'a [u8], told: &sys::bsm_token) -> Token<'a> {
         },
         0x3C => Token::ExecArgs(strings),
         0x3D => Token::ExecEnv(strings),
+        0x52 => Token::Exit {
+            status: v0 as u32,
+            value: v1 as u32,
+        },
         0x71 => Token::Arg64 {
             argument: v0 as u8,
             value: v1,
@@ -166,11 +181,7 @@ fn token_of<'a>(body: &'a [u8], told: &sys::bsm_token) -> Token<'a> {
         },
         0x75 => Token::Subject64(party(&told.values, told.values[7])),
         0x77 => Token::Process64(party(&told.values, told.values[7])),
-        // 52; the library finds no other token.
-        _ => Token::Exit {
-            status: v0 as u32,
-            value: v1 as u32,
-        },
+        _ => unfit("token", told.token),
     }
 }
 

@@ -164,14 +164,11 @@ pub fn write_file(
 /// ```
 /// use bsm::{item_at, write_record, Header, HeaderKind, Item};
 ///
-/// let given = Header {
-///     kind: HeaderKind::Header32,
-///     version: 11,
-///     event: 72,
-///     modifier: 0,
-///     seconds: 1,
-///     nanoseconds: 2,
-/// };
+/// let mut given = Header::new(HeaderKind::Header32);
+/// given.version = 11;
+/// given.event = 72;
+/// given.seconds = 1;
+/// given.nanoseconds = 2;
 /// let mut trail = [0; 64];
 /// let size = write_record(&mut trail, &given, b"\x27\0\0\0\0\0")?;
 /// match item_at(&trail[..size], 0)? {

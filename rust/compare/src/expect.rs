@@ -4,7 +4,7 @@ use bsm::{HeaderKind, Reason, Strings};
 use reference as plain;
 
 /// The reasons in the order of their numbers.
-const REASONS: [Reason; 11] = [
+pub(crate) const REASONS: [Reason; 11] = [
     Reason::Short,
     Reason::Place,
     Reason::NotAnItem,
@@ -31,11 +31,7 @@ pub fn refusal(refusal: plain::Refusal) -> bsm::Refusal {
 
 /// A state.
 pub fn state(state: plain::State) -> bsm::State {
-    bsm::State {
-        place: state.place,
-        records: state.records,
-        files: state.files,
-    }
+    bsm::State::new(state.place, state.records, state.files)
 }
 
 /// How a run ended.
@@ -48,18 +44,17 @@ pub fn run(run: plain::Run) -> bsm::Run {
 
 /// A header.
 pub fn header(header: plain::Header) -> bsm::Header {
-    bsm::Header {
-        kind: if header.number == 0x14 {
-            HeaderKind::Header32
-        } else {
-            HeaderKind::Header64
-        },
-        version: header.version,
-        event: header.event,
-        modifier: header.modifier,
-        seconds: header.seconds,
-        nanoseconds: header.nanoseconds,
-    }
+    let mut same = bsm::Header::new(match header.number {
+        0x14 => HeaderKind::Header32,
+        0x74 => HeaderKind::Header64,
+        number => panic!("{number:02X} is no header"),
+    });
+    same.version = header.version;
+    same.event = header.event;
+    same.modifier = header.modifier;
+    same.seconds = header.seconds;
+    same.nanoseconds = header.nanoseconds;
+    same
 }
 
 /// An item.

@@ -49,9 +49,32 @@ impl Tally {
         }
     }
 
-    /// One token of this kind, read or written.
+    /// One token or item of this kind, read or written; a record counts for
+    /// its header.
     pub fn kind(&mut self, number: u8) {
         self.kinds[usize::from(number)] += 1;
+    }
+
+    /// Adds the counters of another.
+    pub fn add(&mut self, other: &Tally) {
+        self.inputs += other.inputs;
+        self.ends += other.ends;
+        for (sum, more) in self.refusals.iter_mut().zip(other.refusals) {
+            *sum += more;
+        }
+        for (sum, more) in self.kinds.iter_mut().zip(other.kinds) {
+            *sum += more;
+        }
+    }
+
+    /// How often no refusal came, and each of the refusals from 1 on.
+    pub fn answers(&self) -> (usize, &[usize]) {
+        (self.ends, &self.refusals[1..])
+    }
+
+    /// How often tokens or items of this kind came.
+    pub fn times(&self, number: u8) -> usize {
+        self.kinds[usize::from(number)]
     }
 
     /// Prints the counters and asserts the share of inputs, and that each of

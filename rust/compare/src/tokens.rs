@@ -87,6 +87,7 @@ pub fn same_body(tally: &mut Tally, body: &[u8]) {
     let mut tokens = bsm::tokens(body);
     let mut place = 0;
     while let TokenAnswer::Token { token, size, .. } = reference::token_at(body, place) {
+        tally.kind(token.number());
         assert_eq!(tokens.place(), place);
         assert_eq!(tokens.next(), Some(Ok(expect::token(token))));
         place += size;

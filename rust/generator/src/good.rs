@@ -17,6 +17,15 @@ pub(crate) fn token_bytes(args: &TokenArgs) -> Vec<u8> {
     bytes
 }
 
+/// The bytes of a token with this varying part.
+pub(crate) fn token_with(fields: WriteToken<'static>, bytes: Vec<u8>) -> Vec<u8> {
+    token_bytes(&TokenArgs {
+        fields,
+        bytes,
+        groups: Vec::new(),
+    })
+}
+
 /// A good token of any kind.
 pub fn good_token(rng: &mut Rng) -> Vec<u8> {
     let number = rng.pick(&TOKEN_NUMBERS);
@@ -59,13 +68,8 @@ pub fn good_header(rng: &mut Rng) -> Header {
 pub(crate) fn body_for(rng: &mut Rng, number: u8, size: usize) -> Vec<u8> {
     let mut body = token_bytes(&good_args(rng, 0x27));
     let left = size - header_size(number) - 7 - body.len();
-    let mut opaque = TokenArgs {
-        fields: WriteToken::Opaque { bytes: &[] },
-        bytes: vec![0; left - 3],
-        groups: Vec::new(),
-    };
-    rng.fill(&mut opaque.bytes);
-    body.extend(token_bytes(&opaque));
+    let bytes = rng.bytes(left - 3);
+    body.extend(token_with(WriteToken::Opaque { bytes: &[] }, bytes));
     body
 }
 

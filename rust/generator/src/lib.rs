@@ -1,6 +1,7 @@
 //! Seeded inputs for readers and writers of BSM audit trails: good ones,
 //! damaged ones, ones aimed at a refusal number, and large ones for timing.
-//! The same seed gives the same inputs on every machine.
+//! The same seed gives the same inputs on every machine. The stored inputs of
+//! the program bsmlist are made here too.
 //!
 //! Good bytes are made with the writers of the crate `reference`; what is
 //! damaged is found with the layouts written down here once more.
@@ -14,6 +15,7 @@ mod good;
 mod input;
 mod layout;
 mod rng;
+mod stored;
 mod targeted;
 mod token_args;
 mod values;
@@ -25,6 +27,7 @@ pub use good::{good_body, good_file, good_header, good_record, good_token, good_
 pub use input::{any_body, any_input, growth, program_input, random_trail, wild_place, wild_state};
 pub use layout::{raw_file, raw_record, TOKEN_NUMBERS};
 pub use rng::Rng;
+pub use stored::{stored_files, StoredFile};
 pub use targeted::{many_faults, targeted};
 pub use token_args::{good_args, TokenArgs};
 pub use workload::{large_exec, large_opaque, small_records, usual_records};

@@ -104,8 +104,7 @@ fn party64(rng: &mut Rng) -> Party<u64> {
     party(rng, port)
 }
 
-/// A good token with this number; an exit token for any number that is no
-/// body token's.
+/// A good token with this number, which must be a body token's.
 pub fn good_args(rng: &mut Rng, number: u8) -> TokenArgs {
     const EMPTY: &[u8] = &[];
     let fields = match number {
@@ -169,10 +168,11 @@ pub fn good_args(rng: &mut Rng, number: u8) -> TokenArgs {
         },
         0x75 => WriteToken::Subject64(party64(rng)),
         0x77 => WriteToken::Process64(party64(rng)),
-        _ => WriteToken::Exit {
+        0x52 => WriteToken::Exit {
             status: rng.u32(),
             value: rng.u32(),
         },
+        _ => panic!("{number:02X} is no body token"),
     };
     let mut args = TokenArgs {
         fields,

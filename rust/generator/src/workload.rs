@@ -1,8 +1,8 @@
 //! Accepted trails for timing. Each has a fixed seed.
 
-use crate::good::{record_bytes, token_bytes};
+use crate::good::{record_bytes, token_bytes, token_with};
 use crate::rng::Rng;
-use crate::token_args::{good_args, TokenArgs};
+use crate::token_args::good_args;
 use reference::{Header, WriteToken};
 
 /// Records of one kind until the trail has `bytes` bytes or more.
@@ -24,15 +24,6 @@ fn trail_of(seed: u64, bytes: usize, mut record: impl FnMut(&mut Rng) -> (u8, Ve
     trail
 }
 
-/// A token with this varying part.
-fn token(fields: WriteToken<'static>, bytes: Vec<u8>) -> Vec<u8> {
-    token_bytes(&TokenArgs {
-        fields,
-        bytes,
-        groups: Vec::new(),
-    })
-}
-
 /// Printable bytes.
 fn printable(rng: &mut Rng, length: usize) -> Vec<u8> {
     let mut text = rng.bytes(length);
@@ -52,7 +43,7 @@ pub fn small_records(bytes: usize) -> Vec<u8> {
                 0 => {
                     let length = rng.below(20);
                     let text = printable(rng, length);
-                    token(WriteToken::Text { text: &[] }, text)
+                    token_with(WriteToken::Text { text: &[] }, text)
                 }
                 kind => token_bytes(&good_args(rng, [0x27, 0x27, 0x2F, 0x2C, 0x52, 0x2A][kind])),
             };
@@ -73,8 +64,8 @@ pub fn usual_records(bytes: usize) -> Vec<u8> {
         path[0] = b'/';
         let text = printable(rng, text_length);
         let mut body = token_bytes(&good_args(rng, 0x24));
-        body.extend(token(WriteToken::Path { text: &[] }, path));
-        body.extend(token(WriteToken::Text { text: &[] }, text));
+        body.extend(token_with(WriteToken::Path { text: &[] }, path));
+        body.extend(token_with(WriteToken::Text { text: &[] }, text));
         body.extend(token_bytes(&good_args(rng, 0x27)));
         (0x14, body)
     })
@@ -98,7 +89,7 @@ pub fn large_exec(bytes: usize) -> Vec<u8> {
             count,
             strings: &[],
         };
-        (0x14, token(fields, strings))
+        (0x14, token_with(fields, strings))
     })
 }
 
@@ -106,6 +97,6 @@ pub fn large_exec(bytes: usize) -> Vec<u8> {
 pub fn large_opaque(bytes: usize) -> Vec<u8> {
     trail_of(4, bytes, |rng| {
         let bytes = rng.bytes(60_000);
-        (0x14, token(WriteToken::Opaque { bytes: &[] }, bytes))
+        (0x14, token_with(WriteToken::Opaque { bytes: &[] }, bytes))
     })
 }

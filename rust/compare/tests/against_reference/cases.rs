@@ -1,6 +1,6 @@
 //! The cases of paper 01, read through the crate `bsm`.
 
-use bsm::{item_at, Cursor, Header, HeaderKind, Item, Reason, Refusal, Token};
+use bsm::{item_at, Cursor, Item, Reason, Refusal, Token};
 use generator::{raw_file, raw_record};
 
 /// The header of case 9.
@@ -35,14 +35,7 @@ fn refused(reason: Reason, place: usize, need: usize) -> Result<Option<Item<'sta
 fn accepted(body: &[u8], tokens: usize) -> Result<Option<Item<'_>>, Refusal> {
     Ok(Some(Item::Record {
         size: 26 + body.len(),
-        header: Header {
-            kind: HeaderKind::Header32,
-            version: 11,
-            event: 72,
-            modifier: 0,
-            seconds: 1,
-            nanoseconds: 2,
-        },
+        header: compare::header(HEADER),
         body,
         tokens,
     }))

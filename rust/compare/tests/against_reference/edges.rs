@@ -148,14 +148,12 @@ fn names_of_1_023_and_1_024_bytes() {
 #[test]
 fn records_of_65_535_and_65_536_bytes() {
     for (kind, around) in [(HeaderKind::Header32, 26), (HeaderKind::Header64, 34)] {
-        let mut header = Header {
-            kind,
-            version: 11,
-            event: 1,
-            modifier: 2,
-            seconds: 3,
-            nanoseconds: 999_999_999,
-        };
+        let mut header = Header::new(kind);
+        header.version = 11;
+        header.event = 1;
+        header.modifier = 2;
+        header.seconds = 3;
+        header.nanoseconds = 999_999_999;
         let body_of = |size: usize| {
             let length = size - around - 3;
             let mut body = vec![0x13; size - around];
@@ -193,14 +191,9 @@ fn times_of_a_record() {
     let body = [0xFF];
     let write = |kind, seconds, nanoseconds| {
         let mut dst = [0xA5; 60];
-        let header = Header {
-            kind,
-            version: 0,
-            event: 0,
-            modifier: 0,
-            seconds,
-            nanoseconds,
-        };
+        let mut header = Header::new(kind);
+        header.seconds = seconds;
+        header.nanoseconds = nanoseconds;
         let answer = bsm::write_record(&mut dst, &header, &body);
         assert_eq!(dst, [0xA5; 60]);
         answer

@@ -344,3 +344,38 @@ fn writers_and_lists_field_by_field() {
     }
     assert_eq!(checked, 2_000);
 }
+
+/// The numbers that a C program gets from the header are those of the
+/// wrapper.
+#[test]
+fn constants_of_the_header() {
+    let header = include_str!("../../../../include/bsm.h");
+    let mut told = Vec::new();
+    for line in header.lines() {
+        if let Some(names) = line.strip_prefix("enum {") {
+            let (names, _) = names.split_once('}').expect("on one line");
+            told.extend(names.split(',').map(|one| one.split_once('=')));
+        } else if let Some(one) = line.strip_prefix("#define BSM_LINE_MAX") {
+            told.push(Some(("BSM_LINE_MAX", one)));
+        }
+    }
+    let told: Vec<(&str, u64)> = told
+        .into_iter()
+        .map(|one| one.expect("a name and a number"))
+        .map(|(name, number)| (name.trim(), number.trim().parse().expect("a number")))
+        .collect();
+    let known = [
+        ("BSM_END", BSM_END),
+        ("BSM_FILE", BSM_FILE),
+        ("BSM_RECORD", BSM_RECORD),
+        ("BSM_REFUSED", BSM_REFUSED),
+        ("BSM_NO_TOKEN", BSM_NO_TOKEN),
+        ("BSM_TOKEN", BSM_TOKEN),
+        ("BSM_TOKEN_REFUSED", BSM_TOKEN_REFUSED),
+        ("BSM_LINE_MAX", BSM_LINE_MAX as u64),
+        ("BSM_LIST_FIRST", BSM_LIST_FIRST),
+        ("BSM_LIST_AT", BSM_LIST_AT),
+        ("BSM_LIST_DONE", BSM_LIST_DONE),
+    ];
+    assert_eq!(told, known);
+}

@@ -9,7 +9,7 @@ use std::process::{Command, Stdio};
 use std::thread;
 
 /// The program that BSM_PROGRAM names, or the one built in the repository.
-fn program() -> PathBuf {
+pub fn program() -> PathBuf {
     let path = match env::var_os("BSM_PROGRAM") {
         Some(path) => PathBuf::from(path),
         None => Path::new(env!("CARGO_MANIFEST_DIR")).join("../../target/bin/bsmlist"),

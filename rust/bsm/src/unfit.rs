@@ -1,0 +1,162 @@
+//! Where the linked archive tells something that this wrapper does not know.
+
+/// Stops with a panic. The archive is then not the one that the wrapper was
+/// written for, so nothing else of its answer can be relied on either, and
+/// an answer must never pass for another one.
+#[cold]
+#[inline(never)]
+pub(crate) fn unfit(what: &str, number: u64) -> ! {
+    panic!("the linked BSM archive does not fit this wrapper: it told {what} {number}")
+}
+
+#[cfg(test)]
+mod tests {
+    extern crate std;
+
+    use crate::item::{found, part, told_part, HeaderKind, Item};
+    use crate::listing::{cursor_of, Cursor};
+    use crate::refusal::{written, Reason, Refusal};
+    use crate::sys;
+    use crate::token::Token;
+    use crate::token_read::told_token;
+    use core::fmt::Debug;
+    use std::panic::{catch_unwind, UnwindSafe};
+    use std::string::String;
+
+    /// Numbers that mean nothing anywhere, some of which would be known if
+    /// they were cut to 8 or 32 bits.
+    const NEVER: [u64; 6] = [0xFF, 0x101, 0x114, 0x123, (1 << 32) + 1, u64::MAX];
+
+    /// The numbers of the twenty body tokens.
+    const TOKENS: [u64; 20] = [
+        0x23, 0x24, 0x26, 0x27, 0x28, 0x29, 0x2A, 0x2B, 0x2C, 0x2D, 0x2F, 0x32, 0x3B, 0x3C, 0x3D,
+        0x52, 0x71, 0x72, 0x75, 0x77,
+    ];
+
+    /// Asserts that `answer` stops, and that what it says names the number.
+    fn stops<T: Debug>(what: &str, number: u64, answer: impl FnOnce() -> T + UnwindSafe) {
+        let stopped = catch_unwind(answer).expect_err("it must not be answered");
+        let said = stopped.downcast_ref::<String>().expect("a message");
+        let end = std::format!("does not fit this wrapper: it told {what} {number}");
+        assert!(said.ends_with(&end), "{said}");
+    }
+
+    #[test]
+    fn refusals() {
+        for number in 1..=11 {
+            assert_eq!(u64::from(Reason::of(number).number()), number);
+        }
+        for number in [0, 12, 13, 14, 15, 16, 17].into_iter().chain(NEVER) {
+            stops("refusal", number, || Reason::of(number));
+            stops("refusal", number, || Refusal::of(number, 0, 0));
+            if number != 0 {
+                let told = sys::bsm_written {
+                    number,
+                    ..Default::default()
+                };
+                stops("refusal", number, || written(told));
+            }
+        }
+    }
+
+    #[test]
+    fn headers() {
+        for number in 0..=0x1FF {
+            match number {
+                0x14 | 0x74 => {
+                    assert_eq!(u64::from(HeaderKind::of(number).number()), number);
+                }
+                _ => stops("header", number, || HeaderKind::of(number)),
+            }
+        }
+        // Through an item, with numbers of later requests.
+        for header in [0, 0x15, 0x79].into_iter().chain(NEVER) {
+            let told = sys::bsm_item {
+                kind: sys::BSM_RECORD,
+                size: 26,
+                header,
+                ..Default::default()
+            };
+            stops("header", header, || found(&[0; 60], 0, &told));
+        }
+    }
+
+    #[test]
+    fn items() {
+        let told = |kind, number| sys::bsm_item {
+            kind,
+            number,
+            ..Default::default()
+        };
+        assert_eq!(found(&[], 0, &told(sys::BSM_END, 0)), Ok(None));
+        let file = found(&[0; 60], 0, &told(sys::BSM_FILE, 0));
+        assert!(matches!(file, Ok(Some(Item::File { .. }))));
+        let refused = found(&[], 0, &told(sys::BSM_REFUSED, 3)).unwrap_err();
+        assert_eq!(refused.reason, Reason::NotAnItem);
+        for kind in [4, 5].into_iter().chain(NEVER) {
+            stops("item kind", kind, || found(&[0; 60], 0, &told(kind, 3)));
+        }
+        stops("refusal", 0, || found(&[], 0, &told(sys::BSM_REFUSED, 0)));
+    }
+
+    #[test]
+    fn tokens() {
+        let told = |kind, token| sys::bsm_token {
+            kind,
+            token,
+            number: 7,
+            ..Default::default()
+        };
+        for number in 0..=0x1FF {
+            let read = || told_token(&[0; 8], &told(sys::BSM_TOKEN, number));
+            if TOKENS.contains(&number) {
+                let token: Token<'_> = read().unwrap().unwrap().token;
+                assert_eq!(u64::from(token.number()), number);
+            } else {
+                stops("token", number, read);
+            }
+        }
+        for number in NEVER {
+            stops("token", number, || {
+                told_token(&[], &told(sys::BSM_TOKEN, number))
+            });
+        }
+        assert_eq!(told_token(&[], &told(sys::BSM_NO_TOKEN, 0)), Ok(None));
+        let refused = told_token(&[], &told(sys::BSM_TOKEN_REFUSED, 0)).unwrap_err();
+        assert_eq!(refused.reason, Reason::PastEnd);
+        for kind in [2, 4].into_iter().chain(NEVER) {
+            stops("token kind", kind, || told_token(&[], &told(kind, 0x52)));
+        }
+    }
+
+    #[test]
+    fn stages() {
+        let told = |stage| sys::bsm_listing {
+            stage,
+            place: 5,
+            records: 2,
+            files: 1,
+            written: 0,
+        };
+        assert_eq!(cursor_of(&told(sys::BSM_LIST_FIRST)), Cursor::First);
+        assert!(
+            matches!(cursor_of(&told(sys::BSM_LIST_AT)), Cursor::At(state) if state.place == 5)
+        );
+        assert_eq!(cursor_of(&told(sys::BSM_LIST_DONE)), Cursor::Done);
+        for stage in [3].into_iter().chain(NEVER) {
+            stops("stage", stage, || cursor_of(&told(stage)));
+        }
+    }
+
+    #[test]
+    fn parts() {
+        let bytes = [1, 2, 3];
+        let told = |start, length| sys::bsm_part { start, length };
+        assert_eq!(told_part(&bytes, told(0, 0)), None);
+        assert_eq!(told_part(&bytes, told(1, 2)), Some(&bytes[1..]));
+        assert_eq!(told_part(&bytes, told(3, 0)), Some(&bytes[3..]));
+        for (start, length) in [(4, 0), (3, 1), (1, 3), (1, usize::MAX), (usize::MAX, 1)] {
+            stops("a part from", start as u64, || part(&bytes, start, length));
+        }
+    }
+}

@@ -1,0 +1,205 @@
+//! Comparing with ever new seeds.
+
+use crate::expect::{self, REASONS};
+use crate::growing::Growing;
+use crate::lines::{same_lines, same_parts};
+use crate::reading::{same_item, same_items, same_run, same_step};
+use crate::tally::Tally;
+use crate::tokens::{same_body, same_token};
+use crate::writing::same_write;
+use bsm::{Cursor, LINE_MAX};
+use generator::*;
+use reference::{Item, State};
+use std::fmt::{self, Display, Formatter};
+use std::panic::{catch_unwind, AssertUnwindSafe};
+use std::sync::atomic::{AtomicBool, AtomicU64, Ordering};
+use std::sync::Mutex;
+use std::thread;
+
+/// Compares library and reference on what one seed gives. Panics where they
+/// differ.
+pub fn compare_seed(tally: &mut Tally, seed: u64) {
+    let mut rng = Rng::new(seed);
+    for _ in 0..4 {
+        let (trail, state) = any_input(&mut rng);
+        same_trail(tally, &mut rng, &trail, state);
+        same_listing(tally, &mut rng, &trail, state);
+        let body = any_body(&mut rng);
+        same_tokens(tally, &mut rng, &body);
+    }
+    for call in write_calls(&mut rng) {
+        let need = call.args.size();
+        for room in [call.room, need, need.saturating_sub(1)] {
+            let _ = same_write(tally, &mut rng, &call.args, room);
+        }
+    }
+}
+
+/// Compares a trail's run, steps, items and bodies, also while it grows.
+fn same_trail(tally: &mut Tally, rng: &mut Rng, trail: &[u8], state: State) {
+    let run = same_run(tally, trail, state);
+    same_step(trail, state);
+    same_step(trail, run.state);
+    same_items(trail, state);
+    for (place, item) in reference::reading(trail, state).0 {
+        same_item(tally, trail, place);
+        match item {
+            Item::File { .. } => tally.kind(0x11),
+            Item::Record { header, body, .. } => {
+                tally.kind(header.number);
+                same_body(tally, body);
+            }
+        }
+    }
+    for place in [run.state.place, wild_place(rng, trail.len())] {
+        same_item(tally, trail, place);
+    }
+    let mut growing = Growing::new(trail, state);
+    for cut in growth(rng, trail.len()) {
+        growing.grown(tally, &trail[..cut]);
+    }
+    growing.finish();
+}
+
+/// Compares lines and parts of a listing.
+fn same_listing(tally: &mut Tally, rng: &mut Rng, trail: &[u8], state: State) {
+    same_lines(tally, rng, trail, state);
+    let cursor = rng.pick(&[Cursor::First, Cursor::At(expect::state(state))]);
+    let least = rng.pick(&[0, LINE_MAX]);
+    let most = rng.pick(&[60, LINE_MAX, 600]);
+    same_parts(tally, rng, trail, cursor, |rng| rng.between(least, most));
+}
+
+/// Compares a body's walk and its tokens, at all places where it is small.
+fn same_tokens(tally: &mut Tally, rng: &mut Rng, body: &[u8]) {
+    same_body(tally, body);
+    if body.len() <= 200 {
+        for place in 0..=body.len() + 1 {
+            same_token(tally, body, place);
+        }
+    }
+    for _ in 0..4 {
+        let place = wild_place(rng, body.len());
+        same_token(tally, body, place);
+    }
+}
+
+/// What a soak has compared.
+#[derive(Debug, Default)]
+pub struct Soaked {
+    /// How many seeds.
+    pub seeds: u64,
+    /// The counters of all of them.
+    pub tally: Tally,
+    /// The seed at which library and reference differ.
+    pub differs: Option<u64>,
+}
+
+/// Runs `compare` with seeds from `first` on, on several threads, until
+/// `enough` says so or a seed makes it panic.
+pub fn soak(
+    first: u64,
+    threads: usize,
+    enough: impl Fn() -> bool + Sync,
+    compare: impl Fn(&mut Tally, u64) + Sync,
+) -> Soaked {
+    let next = AtomicU64::new(first);
+    let stop = AtomicBool::new(false);
+    let all = Mutex::new(Soaked::default());
+    let work = || {
+        let mut own = Soaked::default();
+        while !stop.load(Ordering::Relaxed) && !enough() {
+            let seed = next.fetch_add(1, Ordering::Relaxed);
+            own.seeds += 1;
+            let same = catch_unwind(AssertUnwindSafe(|| compare(&mut own.tally, seed)));
+            if same.is_err() {
+                own.differs = Some(seed);
+                stop.store(true, Ordering::Relaxed);
+            }
+        }
+        let mut all = all.lock().expect("nothing panics while it is held");
+        all.seeds += own.seeds;
+        all.tally.add(&own.tally);
+        all.differs = all.differs.or(own.differs);
+    };
+    thread::scope(|scope| {
+        for _ in 0..threads {
+            scope.spawn(work);
+        }
+    });
+    all.into_inner()
+        .expect("nothing panicked while it was held")
+}
+
+/// Names of the items' first tokens.
+const ITEMS: [(u8, &str); 3] = [(0x11, "file"), (0x14, "header32"), (0x74, "header64")];
+
+/// Names of the body tokens, in the order of [`TOKEN_NUMBERS`].
+const TOKENS: [&str; 20] = [
+    "path",
+    "subject32",
+    "process32",
+    "return32",
+    "text",
+    "opaque",
+    "in_addr",
+    "ip",
+    "iport",
+    "arg32",
+    "seq",
+    "ipc_perm",
+    "newgroups",
+    "exec_args",
+    "exec_env",
+    "exit",
+    "arg64",
+    "return64",
+    "subject64",
+    "process64",
+];
+
+impl Display for Soaked {
+    fn fmt(&self, f: &mut Formatter<'_>) -> fmt::Result {
+        let tally = &self.tally;
+        writeln!(f, "{} seeds, {} inputs", self.seeds, tally.inputs())?;
+        let (none, refusals) = tally.answers();
+        writeln!(f, "answers")?;
+        writeln!(f, "{:>12}  not refused", none)?;
+        for (at, times) in refusals.iter().enumerate() {
+            writeln!(f, "{times:>12}  {:>2} {}", at + 1, REASONS[at])?;
+        }
+        writeln!(f, "items accepted")?;
+        for (number, name) in ITEMS {
+            writeln!(f, "{:>12}  {number:02X} {name}", tally.times(number))?;
+        }
+        writeln!(f, "body tokens read or written")?;
+        for (number, name) in TOKEN_NUMBERS.iter().zip(TOKENS) {
+            writeln!(f, "{:>12}  {number:02X} {name}", tally.times(*number))?;
+        }
+        Ok(())
+    }
+}
+
+#[cfg(test)]
+mod tests {
+    use super::*;
+
+    #[test]
+    fn a_seed_that_differs_is_named() {
+        let quiet = |tally: &mut Tally, seed| {
+            tally.input();
+            if seed == 107 {
+                std::panic::resume_unwind(Box::new("they differ"));
+            }
+        };
+        for threads in [1, 3] {
+            let soaked = soak(100, threads, || false, quiet);
+            assert_eq!(soaked.differs, Some(107));
+            assert!(soaked.seeds >= 8);
+            assert_eq!(soaked.tally.inputs() as u64, soaked.seeds);
+        }
+        let soaked = soak(107, 1, || false, quiet);
+        assert_eq!((soaked.differs, soaked.seeds), (Some(107), 1));
+        assert_eq!(soak(0, 2, || true, quiet).seeds, 0);
+    }
+}

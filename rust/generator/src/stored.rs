@@ -1,0 +1,208 @@
+//! The stored inputs of the program bsmlist and what it must write for them.
+//! Whole items are made with the writers of the crate `reference`, the
+//! expected output with its lister.
+
+use crate::good::{record_bytes, token_with};
+use crate::layout::{raw_file, raw_record, set};
+use reference::{program_output, write_file, Header, Party, WriteToken};
+
+/// A stored file: its path below `crates/bsmlist`, and its bytes.
+#[derive(Clone, Debug, PartialEq, Eq)]
+pub struct StoredFile {
+    /// The path.
+    pub path: String,
+    /// The bytes.
+    pub bytes: Vec<u8>,
+}
+
+/// All of them: standard input, one file for each other input, the arguments
+/// that name them in this order, and the output.
+pub fn stored_files() -> Vec<StoredFile> {
+    let inputs = inputs();
+    let mut args = String::from("-\n");
+    let stdin = joined(&[file_a(), smallest()]);
+    let mut stdout = program_output(&stdin);
+    let mut files = vec![stored("stdin".into(), stdin)];
+    for (name, bytes) in inputs {
+        args.push_str(name);
+        args.push('\n');
+        stdout.extend(program_output(&bytes));
+        files.push(stored(format!("data/{name}"), bytes));
+    }
+    files.push(stored("args".into(), args.into_bytes()));
+    files.push(stored("stdout".into(), stdout));
+    files
+}
+
+fn stored(path: String, bytes: Vec<u8>) -> StoredFile {
+    StoredFile { path, bytes }
+}
+
+/// The inputs beside standard input. A name with a number is refused with
+/// it.
+fn inputs() -> Vec<(&'static str, Vec<u8>)> {
+    let mut all = vec![("empty", Vec::new()), ("mixed", mixed())];
+    all.extend(cuts());
+    all.extend(bad_items());
+    all.extend(bad_bodies());
+    all.extend(bad_names_and_times());
+    all.extend(sizes());
+    all
+}
+
+/// Items of every kind, with fields at their bounds.
+fn mixed() -> Vec<u8> {
+    let wide = Header {
+        number: 0x74,
+        version: 11,
+        event: u16::MAX,
+        modifier: u16::MAX,
+        seconds: u64::MAX,
+        nanoseconds: 0,
+    };
+    // The opaque holds what looks like the trailer of a smaller record.
+    let trailer_inside = smallest().split_off(smallest().len() - 7);
+    joined(&[
+        file(1_763_200_000, 999_999, b"trail.0"),
+        booking(),
+        record_bytes(&wide, &return32()),
+        file(5, 7, b""),
+        record_bytes(&HEADER, &opaque(trailer_inside)),
+    ])
+}
+
+/// A file token, a usual record and the start of another, cut at ends of
+/// items, inside a header's count, inside a body, and one byte into an item.
+fn cuts() -> Vec<(&'static str, Vec<u8>)> {
+    let trail = joined(&[file_a(), booking(), smallest()]);
+    [
+        ("cut_1", 1),
+        ("cut_12", 12),
+        ("cut_13", 13),
+        ("cut_17", 17),
+        ("cut_18", 18),
+        ("cut_40", 40),
+        ("cut_119", 119),
+    ]
+    .map(|(name, length)| (name, trail[..length].to_vec()))
+    .to_vec()
+}
+
+/// Refusals 3, 4 and 5.
+fn bad_items() -> Vec<(&'static str, Vec<u8>)> {
+    let least = smallest().len() as u32;
+    let count = |count: u32| [&[0x14][..], &count.to_be_bytes()].concat();
+    let mut trailer = smallest();
+    let end = trailer.len();
+    set(&mut trailer, end - 4, &(least + 1).to_be_bytes());
+    vec![
+        ("no3_first_byte", joined(&[file_a(), vec![0x13]])),
+        ("no4_count", joined(&[smallest(), count(least - 1)])),
+        ("no4_count_large", count(65_536)),
+        ("no5_trailer", joined(&[smallest(), trailer])),
+    ]
+}
+
+/// Refusals 6, 7 and 8 of a body.
+fn bad_bodies() -> Vec<(&'static str, Vec<u8>)> {
+    let between = joined(&[return32(), vec![0x00], return32()]);
+    vec![
+        ("no6_number", raw_record(&HEADER, &between)),
+        ("no7_end", raw_record(&HEADER, b"\x2c\0")),
+        ("no7_strings", raw_record(&HEADER, b"\x3c\0\0\0\x02ab\0cd")),
+        ("no8_text", raw_record(&HEADER, b"\x28\0\x03\0a\0")),
+    ]
+}
+
+/// Refusal 8 of a file name, and 9.
+fn bad_names_and_times() -> Vec<(&'static str, Vec<u8>)> {
+    let late = Header {
+        nanoseconds: 1_000_000_000,
+        ..HEADER
+    };
+    vec![
+        ("no8_name", raw_file(5, 7, 3, b"\0a\0")),
+        ("no9_file", raw_file(5, 1_000_000, 2, b"a\0")),
+        ("no9_header", joined(&[smallest(), raw_record(&late, b"")])),
+    ]
+}
+
+/// An accepted trail of as many bytes as the program takes, and one more
+/// byte.
+fn sizes() -> Vec<(&'static str, Vec<u8>)> {
+    let around = record_bytes(&HEADER, &opaque(Vec::new())).len() + smallest().len();
+    let body = opaque(vec![b'x'; 65_536 - around]);
+    let most = joined(&[record_bytes(&HEADER, &body), smallest()]);
+    let longer = joined(&[most.clone(), vec![0x14]]);
+    vec![("size_65536", most), ("size_65537", longer)]
+}
+
+/// The header of paper 01's cases.
+const HEADER: Header = Header {
+    number: 0x14,
+    version: 11,
+    event: 72,
+    modifier: 0,
+    seconds: 1,
+    nanoseconds: 2,
+};
+
+/// The record of case 9.
+fn smallest() -> Vec<u8> {
+    record_bytes(&HEADER, b"")
+}
+
+/// The file token of case 12.
+fn file_a() -> Vec<u8> {
+    file(5, 7, b"a")
+}
+
+fn file(seconds: u32, microseconds: u32, name: &[u8]) -> Vec<u8> {
+    let mut token = vec![0; raw_file(0, 0, 0, name).len() + 1];
+    let written = write_file(&mut token, seconds, microseconds, name);
+    assert_eq!(written, Ok(token.len()), "a good file token was refused");
+    token
+}
+
+/// A usual record of four tokens.
+fn booking() -> Vec<u8> {
+    let header = Header {
+        event: 6_152,
+        seconds: 1_763_200_000,
+        nanoseconds: 999_999_999,
+        ..HEADER
+    };
+    let subject = WriteToken::Subject32(Party {
+        audit: 1_000,
+        effective_user: 1_000,
+        effective_group: 100,
+        real_user: 1_000,
+        real_group: 100,
+        process: 4_242,
+        session: 77,
+        port: 0,
+        address: 0x7F00_0001,
+    });
+    let path = WriteToken::Path { text: &[] };
+    let text = WriteToken::Text { text: &[] };
+    let body = joined(&[
+        token_with(subject, Vec::new()),
+        token_with(path, b"/bookings/cancel".to_vec()),
+        token_with(text, b"charter 4711".to_vec()),
+        return32(),
+    ]);
+    record_bytes(&header, &body)
+}
+
+fn return32() -> Vec<u8> {
+    let fields = WriteToken::Return32 { error: 0, value: 0 };
+    token_with(fields, Vec::new())
+}
+
+fn opaque(bytes: Vec<u8>) -> Vec<u8> {
+    token_with(WriteToken::Opaque { bytes: &[] }, bytes)
+}
+
+fn joined(parts: &[Vec<u8>]) -> Vec<u8> {
+    parts.concat()
+}
