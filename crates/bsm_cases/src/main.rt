@@ -1,9 +1,9 @@
 // The cases of paper 01, each with what the item reader answers; the last one is also read whole by a run.
 use bsm_item::item::Item;
 use bsm_item::item::ItemRead;
-use bsm_item::item::body_of;
-use bsm_item::item::item_at;
-use bsm_item::item::name_of;
+use bsm_item::read::body_of;
+use bsm_item::read::item_at;
+use bsm_item::read::name_of;
 use bsm_item::state::Ending;
 use bsm_item::state::State;
 use bsm_token::refusal::Refusal;
@@ -25,25 +25,31 @@ fn refused(f: Refusal) {
     number(f.need as u64);
 }
 
-// An item: its size and fields, and its name or the size of its body.
-fn found(trail: &[u8], place: usize, item: Item) {
+// An item: its size and fields, where its name or body stands, and the name or the size of the body.
+fn found(trail: &[u8], item: Item) {
     match item {
         Item::File {
             size,
             seconds,
             microseconds,
+            start,
+            length,
         } => {
             say(b"file");
             number(size as u64);
             number(seconds as u64);
             number(microseconds as u64);
+            number(start as u64);
+            number(length as u64);
             say(b"\t");
-            say(name_of(trail, place, item));
+            say(name_of(trail, item));
         }
         Item::Record {
             size,
             header,
             tokens,
+            start,
+            length,
         } => {
             say(b"record");
             number(size as u64);
@@ -54,7 +60,9 @@ fn found(trail: &[u8], place: usize, item: Item) {
             number(header.seconds);
             number(header.nanoseconds);
             number(tokens as u64);
-            number(body_of(trail, place, item).len() as u64);
+            number(start as u64);
+            number(length as u64);
+            number(body_of(trail, item).len() as u64);
         }
     }
 }
@@ -64,7 +72,7 @@ fn case(name: &[u8], trail: &[u8], place: usize) {
     say(name);
     say(b"\t");
     match item_at(trail, place) {
-        ItemRead::Found(item) => found(trail, place, item),
+        ItemRead::Found(item) => found(trail, item),
         ItemRead::End => say(b"end"),
         ItemRead::Refused(f) => refused(f),
     }
