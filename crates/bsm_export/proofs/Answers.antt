@@ -8,9 +8,9 @@ use Rattle.bsm_token.specs.Meaning.{bodyRead}
 use Rattle.bsm_token.specs.declared.refusal.Refusal.{Refusal}
 use Rattle.bsm_token.specs.declared.body.BodyRead.{BodyRead}
 use Rattle.bsm_token.specs.declared.body.BodyRead.the-variants.{Tokens, Refused as BadBody}
-use Rattle.bsm_write.specs.Write.{Plan, answerMeant, Written}
-use Rattle.bsm_write.specs.declared.answer.WriteAnswer.{WriteAnswer}
-use Rattle.bsm_write.specs.declared.answer.WriteAnswer.the-variants.{Wrote, Refused}
+use Rattle.bsm_bytes.specs.Write.{Draft, answerMeant, Written}
+use Rattle.bsm_bytes.specs.declared.answer.WriteAnswer.{WriteAnswer}
+use Rattle.bsm_bytes.specs.declared.answer.WriteAnswer.the-variants.{Wrote, Refused}
 use Rattle.bsm_export.specs.Written.{flatWritten, flatWalk, Exported}
 use Rattle.bsm_export.specs.declared.answer.BsmWritten.{BsmWritten}
 use Rattle.bsm_export.proofs.Refusals.{zeros}
@@ -29,7 +29,7 @@ module _ {r : BsmWritten} where
   refused-flat f e q = q ∙ ap (λ x. flatWritten (answerMeant x)) (sym e)
 
   -- every writer
-  pub exported : {p : Plan} {d d′ : List ℕ} {a : WriteAnswer} → Written p d d′ a → r ≡ flatWritten (answerMeant a) → Exported p d d′ r
+  pub exported : {p : Draft} {d d′ : List ℕ} {a : WriteAnswer} → Written p d d′ a → r ≡ flatWritten (answerMeant a) → Exported p d d′ r
   exported w e = record { answer = e ∙ ap flatWritten (w .answer); left = w .left }
 
   pub walk-counted : (s : List ℕ) {y : BodyRead} (n : ℕ) {f : Refusal} → y ≡ bodyRead (walk s) → y ≡ Tokens n → f ≡ zeros → r ≡ numbers n f → r ≡ flatWalk (walk s)

@@ -13,16 +13,16 @@ use Rattle.bsm_item.specs.declared.item.ItemRead.{ItemRead}
 use Rattle.bsm_item.specs.declared.item.ItemRead.the-variants.{Found as FoundItem, End, Refused}
 use Rattle.bsm_item.specs.declared.state.State.{State as Place}
 use Rattle.bsm_item.specs.declared.state.Run.{Run}
-use Rattle.bsm_write.specs.Write.{code, refused, answerMeant, Written}
-use Rattle.bsm_write.specs.declared.answer.WriteAnswer.{WriteAnswer}
+use Rattle.bsm_bytes.specs.Write.{code, denied, answerMeant, Written}
+use Rattle.bsm_bytes.specs.declared.answer.WriteAnswer.{WriteAnswer}
 use Rattle.bsm_listing.specs.Line.{itemLine, lastLine}
-use Rattle.bsm_listing.specs.Listing.{Cursor, first, at, done, partOf}
+use Rattle.bsm_listing.specs.Listing.{Cursor, first, atState, done, linesOf}
 use Rattle.bsm_listing.specs.Meaning.{cursorMeant, Listed}
 use Rattle.bsm_listing.specs.declared.listing.Cursor.{Cursor as CursorCode}
 use Rattle.bsm_listing.specs.declared.listing.Cursor.the-variants.{First, At, Done}
 use Rattle.bsm_listing.specs.declared.listing.Listing.{Listing}
 use Rattle.bsm_export.specs.Written.{flatWritten, Exported}
-use Rattle.bsm_export.specs.Lines.{lineAnswer, lineLeft, ItemLined, lastPlan, cursorFrom, flatListing, PartListed}
+use Rattle.bsm_export.specs.Lines.{lineAnswer, lineLeft, ItemLined, lastDraft, cursorFrom, flatListing, PartListed}
 use Rattle.bsm_export.specs.declared.answer.BsmWritten.{BsmWritten}
 use Rattle.bsm_export.specs.declared.lines.BsmListing.{BsmListing}
 use Rattle.bsm_export.proofs.Refusals.{zeros, by-numbers}
@@ -47,13 +47,13 @@ module _ (s : List ℕ) (p : ℕ) (x : ItemRead) (e : readMeant s p x ≡ itemAt
   unfolding lineAnswer lineLeft flatWritten
   line-refused d f g h =
       lined (sym e ∙ ap (readMeant s p) g)
-      (h ∙ by-numbers (λ a. flatWritten (lineAnswer (length d) p a)) (λ k q n. flatWritten (refused k q n)) (λ q n. refl) (λ k q n. refl) f)
+      (h ∙ by-numbers (λ a. flatWritten (lineAnswer (length d) p a)) (λ k q n. flatWritten (denied k q n)) (λ q n. refl) (λ k q n. refl) f)
       (by-numbers (lineLeft d p) (λ k q n. d) (λ q n. refl) (λ k q n. refl) f)
 
 pub last-lined : (x : Run) {o : Stop} {d d′ : List ℕ} {a : WriteAnswer} {r : BsmWritten} → runMeant x ≡ o → Written (code (lastLine (stateMeant (x .state)) (endingMeant (x .ending)))) d d′ a
-    → r ≡ flatWritten (answerMeant a) → Exported (lastPlan o) d d′ r
-unfolding lastPlan
-last-lined x {o} {d} {d′} {a} {r} e w g = subst (λ y. Exported (lastPlan y) d d′ r) e (exported w g)
+    → r ≡ flatWritten (answerMeant a) → Exported (lastDraft o) d d′ r
+unfolding lastDraft
+last-lined x {o} {d} {d′} {a} {r} e w g = subst (λ y. Exported (lastDraft y) d d′ r) e (exported w g)
 
 -- ---- parts
 
@@ -62,7 +62,7 @@ module _ (k : ℕ) (st : State) where
   unfolding cursorFrom
   stage-first e = rw (eq-eqb k 0 e)
 
-  pub stage-at : (k ≡ 0 → ⊥) → k ≡ 1 → at st ≡ cursorFrom k st
+  pub stage-at : (k ≡ 0 → ⊥) → k ≡ 1 → atState st ≡ cursorFrom k st
   unfolding cursorFrom
   stage-at n e = rw (ne-eqb k 0 n, eq-eqb k 1 e)
 
@@ -90,7 +90,7 @@ module _ (l : Listing) {st : Place} {r : BsmListing} where
       h ∙ ap (λ y. record { stage = 2; place = y .place; records = y .records; files = y .files; written = l .written }) z
       ∙ ap (λ c. flatListing (cursorMeant c) (l .written)) (sym e)
 
-pub part-listed : (s : List ℕ) (n : ℕ) (c : CursorCode) {k : Cursor} {d d′ : List ℕ} {l : Listing} {r : BsmListing} → cursorMeant c ≡ k → Listed (partOf s n (cursorMeant c)) d d′ l
-    → r ≡ flatListing (cursorMeant (l .cursor)) (l .written) → PartListed (partOf s n k) d d′ r
+pub part-listed : (s : List ℕ) (n : ℕ) (c : CursorCode) {k : Cursor} {d d′ : List ℕ} {l : Listing} {r : BsmListing} → cursorMeant c ≡ k → Listed (linesOf s n (cursorMeant c)) d d′ l
+    → r ≡ flatListing (cursorMeant (l .cursor)) (l .written) → PartListed (linesOf s n k) d d′ r
 part-listed s n c {k} {d} {d′} {l} {r} e h g =
-    subst (λ y. PartListed (partOf s n y) d d′ r) e (record { answer = g ∙ ap₂ flatListing (h .cursor) (h .written); left = h .left })
+    subst (λ y. PartListed (linesOf s n y) d d′ r) e (record { answer = g ∙ ap₂ flatListing (h .cursor) (h .written); left = h .left })

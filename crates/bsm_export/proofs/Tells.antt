@@ -19,13 +19,14 @@ use Rattle.bsm_item.specs.Item.{fileItem, recordItem, Answer, item, end, short,
 use Rattle.bsm_item.specs.Reading.{State, Reading, answerAt, with, plain, stopOf}
 use Rattle.bsm_item.proofs.Longer.{refusal-numbers}
 use Rattle.bsm_item.proofs.Runs.{Stops, Reads, stops, goes, plain-reads}
-use Rattle.bsm_write.specs.Write.{Plan, code, Outcome, wrote, refused, answerIn, Written, tokenPlan}
-use Rattle.bsm_write.specs.Items.{filePlan, recordPlan}
-use Rattle.bsm_write.specs.Demands.{Among, Listed}
-use Rattle.bsm_write.specs.declared.answer.WriteAnswer.the-variants.{Refused}
-use Rattle.bsm_write.proofs.Answers.{token-refusals, file-refusals, record-refusals}
+use Rattle.bsm_bytes.specs.Write.{Draft, code, Reply, wrote, denied, answerIn, Written}
+use Rattle.bsm_write.specs.Given.{tokenDraft}
+use Rattle.bsm_write.specs.Items.{fileDraft, recordDraft}
+use Rattle.bsm_write.specs.Demands.{Among, OneOf}
+use Rattle.bsm_bytes.specs.declared.answer.WriteAnswer.the-variants.{Refused}
+use Rattle.bsm_write.proofs.Refusals.{token-refusals, file-refusals, record-refusals}
 use Rattle.bsm_listing.specs.Line.{itemLine}
-use Rattle.bsm_listing.specs.Listing.{Cursor, first, at, done}
+use Rattle.bsm_listing.specs.Listing.{Cursor, first, atState, done}
 use Rattle.bsm_export.specs.Items.{flatFound, flatItem, stateAt, stoppedBy, flatOutcome}
 use Rattle.bsm_export.specs.Written.{flatWritten, flatWalk}
 use Rattle.bsm_export.specs.Lines.{lineAnswer, ItemLined, cursorFrom, flatListing}
@@ -134,12 +135,12 @@ runs-tell s st = let w = stop-answer (plain-reads s st) in go ((plain s st) .ans
 -- ---- writing
 
 -- an outcome that is never a refusal with the number 0
-wrote-some : (o : Outcome) (r : BsmWritten) → ((k q n : ℕ) → o ≡ refused k q n → k ≢ 0) → r ≡ flatWritten o → r .number ≡ 0 → o ≡ wrote (r .written)
+wrote-some : (o : Reply) (r : BsmWritten) → ((k q n : ℕ) → o ≡ denied k q n → k ≢ 0) → r ≡ flatWritten o → r .number ≡ 0 → o ≡ wrote (r .written)
 unfolding flatWritten
 wrote-some (wrote n) r h f z = ap (λ y. wrote (y .written)) (sym f)
-wrote-some (refused k q n) r h f z = absurd (h k q n refl (sym (ap (λ y. y .number) f) ∙ z))
+wrote-some (denied k q n) r h f z = absurd (h k q n refl (sym (ap (λ y. y .number) f) ∙ z))
 
-tells : (p : Plan) → ((d d′ : List ℕ) (f : Refusal) → Written p d d′ (Refused f) → f .number ≢ 0) → Tells p
+tells : (p : Draft) → ((d d′ : List ℕ) (f : Refusal) → Written p d d′ (Refused f) → f .number ≢ 0) → Tells p
 tells p h d d′ r x z =
     wrote-some (answerIn (length d) p) r
     (λ k q n e. h d d′ (record { number = k; place = q; need = n }) (record { answer = sym e; left = x .left })) (x .answer) z
@@ -154,13 +155,13 @@ among-above [] x a m z = m
 among-above (n ∷ ns) x a (inl e) z = omega (arith, a .0)
 among-above (n ∷ ns) x a (inr m) z = among-above ns x (a .1) m z
 
-listed-above : (ns : List ℕ) (f : Refusal) → Above ns → Listed ns f → f .number ≢ 0
-listed-above ns f a l = among-above ns (f .number) a (l .number)
+numbers-above : (ns : List ℕ) (f : Refusal) → Above ns → OneOf ns f → f .number ≢ 0
+numbers-above ns f a l = among-above ns (f .number) a (l .number)
 
-code-number : (room : ℕ) (bs : List ℕ) (k q n : ℕ) → answerIn room (code bs) ≡ refused k q n → k ≢ 0
+code-number : (room : ℕ) (bs : List ℕ) (k q n : ℕ) → answerIn room (code bs) ≡ denied k q n → k ≢ 0
 code-number room bs k q n = go (leb (length bs) room)
   where
-    go : (b : Bool) → ifElse b (wrote (length bs)) (refused 10 0 0) ≡ refused k q n → k ≢ 0
+    go : (b : Bool) → ifElse b (wrote (length bs)) (denied 10 0 0) ≡ denied k q n → k ≢ 0
     go true e z = let y : _≡_ {A = ℕ} 0 1 = cc in omega arith
     go false e z = let y : 10 ≡ k = cc in omega arith
 
@@ -171,7 +172,7 @@ item-lines-tell : (s : List ℕ) (p : ℕ) (d d′ : List ℕ) (r : BsmWritten) 
 unfolding lineAnswer
 item-lines-tell s p d d′ r x z = wrote-some (lineAnswer (length d) p (itemAt s p)) r (go (itemAt s p) refl) (x .answer) z
   where
-    go : (a : Answer) → itemAt s p ≡ a → (k q n : ℕ) → lineAnswer (length d) p a ≡ refused k q n → k ≢ 0
+    go : (a : Answer) → itemAt s p ≡ a → (k q n : ℕ) → lineAnswer (length d) p a ≡ denied k q n → k ≢ 0
     go (item i) e k q n f y = code-number (length d) (itemLine p i) k q n f y
     go end e k q n f y = let w : _≡_ {A = ℕ} 0 1 = cc in omega arith
     go (short m l) e k q n f y = let w : 1 ≡ k = cc in omega arith
@@ -182,7 +183,7 @@ item-lines-tell s p d d′ r x z = wrote-some (lineAnswer (length d) p (itemAt s
 stages-back : (c : Cursor) (n : ℕ) → let r = flatListing c n in cursorFrom (r .stage) (stateAt (r .place) (r .records) (r .files)) ≡ c
 unfolding flatListing cursorFrom
 stages-back first n = refl
-stages-back (at st) n = refl
+stages-back (atState st) n = refl
 stages-back done n = refl
 
 pub numbers-tell : NumbersTell
@@ -193,11 +194,11 @@ numbers-tell =
       bodyFields = fields-whole;
       bodies = bodies-tell;
       runs = runs-tell;
-      ofTokens = λ number values g. tells (tokenPlan number values g) (λ d d′ f w. listed-above (11 ∷ 8 ∷ 10 ∷ []) f (omega arith, (omega arith, (omega arith, tt))) (token-refusals number values g d d′ f w));
-      ofFiles = λ values name. tells (filePlan values name) (λ d d′ f w. listed-above (9 ∷ 8 ∷ 10 ∷ []) f (omega arith, (omega arith, (omega arith, tt))) (file-refusals values name d d′ f w));
+      ofTokens = λ number values g. tells (tokenDraft number values g) (λ d d′ f w. numbers-above (11 ∷ 8 ∷ 10 ∷ []) f (omega arith, (omega arith, (omega arith, tt))) (token-refusals number values g d d′ f w));
+      ofFiles = λ values name. tells (fileDraft values name) (λ d d′ f w. numbers-above (9 ∷ 8 ∷ 10 ∷ []) f (omega arith, (omega arith, (omega arith, tt))) (file-refusals values name d d′ f w));
       ofRecords = λ h body.
-          tells (recordPlan h body)
-          (λ d d′ f w. ⊎-elim (listed-above (4 ∷ 11 ∷ 9 ∷ 10 ∷ []) f (omega arith, (omega arith, (omega arith, (omega arith, tt))))) (λ b z. fault-above (b .why) (sym (b .number) ∙ z)) (record-refusals h body d d′ f w));
+          tells (recordDraft h body)
+          (λ d d′ f w. ⊎-elim (numbers-above (4 ∷ 11 ∷ 9 ∷ 10 ∷ []) f (omega arith, (omega arith, (omega arith, (omega arith, tt))))) (λ b z. fault-above (b .why) (sym (b .number) ∙ z)) (record-refusals h body d d′ f w));
       ofLines = lines-tell;
       ofItems = item-lines-tell;
       stages = stages-back;

@@ -9,8 +9,9 @@ use Rattle.bsm_token.specs.Token.{Token, Extent, token, tokens, tokenAt, walk}
 use Rattle.bsm_token.specs.Flat.{flatToken}
 use Rattle.bsm_item.specs.Item.{Head, end, itemAt}
 use Rattle.bsm_item.specs.Reading.{State, plain, stopOf}
-use Rattle.bsm_write.specs.Write.{Plan, code, wrote, answerIn, Given, tokenPlan}
-use Rattle.bsm_write.specs.Items.{filePlan, recordPlan}
+use Rattle.bsm_bytes.specs.Write.{Draft, code, wrote, answerIn}
+use Rattle.bsm_write.specs.Given.{Given, tokenDraft}
+use Rattle.bsm_write.specs.Items.{fileDraft, recordDraft}
 use Rattle.bsm_listing.specs.Listing.{Cursor}
 use Rattle.bsm_export.specs.Items.{flatItem, stateAt, flatOutcome}
 use Rattle.bsm_export.specs.Written.{flatWalk, Exported}
@@ -18,7 +19,7 @@ use Rattle.bsm_export.specs.Lines.{lineAnswer, ItemLined, cursorFrom, fl
 use Rattle.bsm_export.specs.declared.answer.BsmWritten.{BsmWritten}
 
 -- a writer of p that answers with the number 0 has written
-abbrev pub Tells : Plan → Type 0
+abbrev pub Tells : Draft → Type 0
 Tells p = (d d′ : List ℕ) (r : BsmWritten) → Exported p d d′ r → r .number ≡ 0 → answerIn (length d) p ≡ wrote (r .written)
 
 pub record NumbersTell : Type 0 where
@@ -27,9 +28,9 @@ pub record NumbersTell : Type 0 where
   pub bodyFields : (s : List ℕ) (p : ℕ) (t : Token) (x : Extent) → tokenAt s p ≡ token t x → (length (t .values) ≤ 10) × (length (x .counts) ≤ 1)
   pub bodies : (s : List ℕ) → (flatWalk (walk s)) .number ≡ 0 → walk s ≡ tokens ((flatWalk (walk s)) .written)
   pub runs : (s : List ℕ) (st : State) → (flatOutcome (stopOf (plain s st))) .number ≡ 0 → (plain s st) .answer ≡ end
-  pub ofTokens : (number : ℕ) (values : List ℕ) (g : Given) → Tells (tokenPlan number values g)
-  pub ofFiles : (values name : List ℕ) → Tells (filePlan values name)
-  pub ofRecords : (h : Head) (body : List ℕ) → Tells (recordPlan h body)
+  pub ofTokens : (number : ℕ) (values : List ℕ) (g : Given) → Tells (tokenDraft number values g)
+  pub ofFiles : (values name : List ℕ) → Tells (fileDraft values name)
+  pub ofRecords : (h : Head) (body : List ℕ) → Tells (recordDraft h body)
   pub ofLines : (bs : List ℕ) → Tells (code bs)
   pub ofItems : (s : List ℕ) (p : ℕ) (d d′ : List ℕ) (r : BsmWritten) → ItemLined s p d d′ r → r .number ≡ 0 → lineAnswer (length d) p (itemAt s p) ≡ wrote (r .written)
   pub stages : (c : Cursor) (n : ℕ) → let r = flatListing c n in cursorFrom (r .stage) (stateAt (r .place) (r .records) (r .files)) ≡ c

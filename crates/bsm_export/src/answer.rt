@@ -1,9 +1,9 @@
 // What a writer answers, as numbers.
 ghost use mathlib.Core.Path.{_≡_};
-ghost use Rattle.bsm_write.specs.Write.{answerMeant};
+ghost use Rattle.bsm_bytes.specs.Write.{answerMeant};
 ghost use Rattle.bsm_export.specs.Written.{flatWritten};
+use bsm_bytes::answer::WriteAnswer;
 use bsm_token::refusal::Refusal;
-use bsm_write::answer::WriteAnswer;
 
 // How many bytes were written, or tokens counted; or the refusal. `number` is 0 where nothing was refused.
 #[repr(C)]

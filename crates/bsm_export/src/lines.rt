@@ -3,13 +3,13 @@ ghost use mathlib.Core.Path.{_≡_};
 ghost use lib.ListN.{length};
 ghost use Rattle.bsm_item.specs.Reading.{plain, stopOf};
 ghost use Rattle.bsm_item.specs.Meaning.{stateMeant};
-ghost use Rattle.bsm_write.specs.Write.{code};
+ghost use Rattle.bsm_bytes.specs.Write.{code};
 ghost use Rattle.bsm_listing.specs.Line.{firstLine};
-ghost use Rattle.bsm_listing.specs.Listing.{partOf};
+ghost use Rattle.bsm_listing.specs.Listing.{linesOf};
 ghost use Rattle.bsm_listing.specs.Meaning.{cursorMeant};
 ghost use Rattle.bsm_export.specs.Items.{stateAt};
 ghost use Rattle.bsm_export.specs.Written.{Exported};
-ghost use Rattle.bsm_export.specs.Lines.{ItemLined, lastPlan, cursorFrom, flatListing, PartListed};
+ghost use Rattle.bsm_export.specs.Lines.{ItemLined, lastDraft, cursorFrom, flatListing, PartListed};
 use crate::answer::BsmWritten;
 use crate::answer::flat;
 use crate::answer::no_refusal;
@@ -64,7 +64,7 @@ pub extern "C" fn bsm_last_line(
     records: usize,
     files: usize,
 ) -> BsmWritten
-    ensures { λ r. ⌜ Exported (lastPlan (stopOf (plain (now (trail .entry)) (stateAt place records files)))) (now (dst .entry)) (now (dst .exit)) r ⌝ }
+    ensures { λ r. ⌜ Exported (lastDraft (stopOf (plain (now (trail .entry)) (stateAt place records files)))) (now (dst .entry)) (now (dst .exit)) r ⌝ }
 {
     let state = State {
         place: place,
@@ -121,7 +121,7 @@ pub extern "C" fn bsm_list(
     records: usize,
     files: usize,
 ) -> BsmListing
-    ensures { λ r. ⌜ PartListed (partOf (now (trail .entry)) (length (now (out .entry))) (cursorFrom stage (stateAt place records files))) (now (out .entry)) (now (out .exit)) r ⌝ }
+    ensures { λ r. ⌜ PartListed (linesOf (now (trail .entry)) (length (now (out .entry))) (cursorFrom stage (stateAt place records files))) (now (out .entry)) (now (out .exit)) r ⌝ }
 {
     let state = State {
         place: place,

@@ -1,15 +1,15 @@
 // Writers of subject and process tokens, the port of 4 or of 8 bytes.
 ghost use mathlib.Core.List.{[], _∷_};
-ghost use Rattle.bsm_write.specs.Write.{nothing, tokenPlan};
+ghost use Rattle.bsm_write.specs.Given.{nothing, tokenDraft};
 ghost use Rattle.bsm_export.specs.Written.{Exported};
 use crate::answer::BsmWritten;
 use crate::answer::flat;
 use bsm_token::kind::Party32;
 use bsm_token::kind::Party64;
-use bsm_write::plain::write_process32;
-use bsm_write::plain::write_process64;
-use bsm_write::plain::write_subject32;
-use bsm_write::plain::write_subject64;
+use bsm_write::simple::write_process32;
+use bsm_write::simple::write_process64;
+use bsm_write::simple::write_subject32;
+use bsm_write::simple::write_subject64;
 
 #[no_mangle]
 pub extern "C" fn bsm_write_subject32(
@@ -24,7 +24,7 @@ pub extern "C" fn bsm_write_subject32(
     port: u32,
     address: u32,
 ) -> BsmWritten
-    ensures { λ r. ⌜ Exported (tokenPlan 0x24 (audit ∷ «effective_user» ∷ «effective_group» ∷ «real_user» ∷ «real_group» ∷ process ∷ session ∷ port ∷ address ∷ []) nothing) (now (dst .entry)) (now (dst .exit)) r ⌝ }
+    ensures { λ r. ⌜ Exported (tokenDraft 0x24 (audit ∷ «effective_user» ∷ «effective_group» ∷ «real_user» ∷ «real_group» ∷ process ∷ session ∷ port ∷ address ∷ []) nothing) (now (dst .entry)) (now (dst .exit)) r ⌝ }
 {
     flat(write_subject32(
         dst,
@@ -55,7 +55,7 @@ pub extern "C" fn bsm_write_process32(
     port: u32,
     address: u32,
 ) -> BsmWritten
-    ensures { λ r. ⌜ Exported (tokenPlan 0x26 (audit ∷ «effective_user» ∷ «effective_group» ∷ «real_user» ∷ «real_group» ∷ process ∷ session ∷ port ∷ address ∷ []) nothing) (now (dst .entry)) (now (dst .exit)) r ⌝ }
+    ensures { λ r. ⌜ Exported (tokenDraft 0x26 (audit ∷ «effective_user» ∷ «effective_group» ∷ «real_user» ∷ «real_group» ∷ process ∷ session ∷ port ∷ address ∷ []) nothing) (now (dst .entry)) (now (dst .exit)) r ⌝ }
 {
     flat(write_process32(
         dst,
@@ -86,7 +86,7 @@ pub extern "C" fn bsm_write_subject64(
     port: u64,
     address: u32,
 ) -> BsmWritten
-    ensures { λ r. ⌜ Exported (tokenPlan 0x75 (audit ∷ «effective_user» ∷ «effective_group» ∷ «real_user» ∷ «real_group» ∷ process ∷ session ∷ port ∷ address ∷ []) nothing) (now (dst .entry)) (now (dst .exit)) r ⌝ }
+    ensures { λ r. ⌜ Exported (tokenDraft 0x75 (audit ∷ «effective_user» ∷ «effective_group» ∷ «real_user» ∷ «real_group» ∷ process ∷ session ∷ port ∷ address ∷ []) nothing) (now (dst .entry)) (now (dst .exit)) r ⌝ }
 {
     flat(write_subject64(
         dst,
@@ -117,7 +117,7 @@ pub extern "C" fn bsm_write_process64(
     port: u64,
     address: u32,
 ) -> BsmWritten
-    ensures { λ r. ⌜ Exported (tokenPlan 0x77 (audit ∷ «effective_user» ∷ «effective_group» ∷ «real_user» ∷ «real_group» ∷ process ∷ session ∷ port ∷ address ∷ []) nothing) (now (dst .entry)) (now (dst .exit)) r ⌝ }
+    ensures { λ r. ⌜ Exported (tokenDraft 0x77 (audit ∷ «effective_user» ∷ «effective_group» ∷ «real_user» ∷ «real_group» ∷ process ∷ session ∷ port ∷ address ∷ []) nothing) (now (dst .entry)) (now (dst .exit)) r ⌝ }
 {
     flat(write_process64(
         dst,

@@ -1,6 +1,6 @@
 // Writers of file tokens and of records.
 ghost use mathlib.Core.List.{[], _∷_};
-ghost use Rattle.bsm_write.specs.Items.{filePlan, recordPlan};
+ghost use Rattle.bsm_write.specs.Items.{fileDraft, recordDraft};
 ghost use Rattle.bsm_export.specs.Written.{Exported};
 use crate::answer::BsmWritten;
 use crate::answer::flat;
@@ -16,7 +16,7 @@ pub extern "C" fn bsm_write_file(
     microseconds: u32,
     name: &[u8],
 ) -> BsmWritten
-    ensures { λ r. ⌜ Exported (filePlan (seconds ∷ microseconds ∷ []) (now (name .entry))) (now (dst .entry)) (now (dst .exit)) r ⌝ }
+    ensures { λ r. ⌜ Exported (fileDraft (seconds ∷ microseconds ∷ []) (now (name .entry))) (now (dst .entry)) (now (dst .exit)) r ⌝ }
 {
     flat(write_file(dst, seconds, microseconds, name))
 }
@@ -31,7 +31,7 @@ pub extern "C" fn bsm_write_record32(
     nanoseconds: u64,
     body: &[u8],
 ) -> BsmWritten
-    ensures { λ r. ⌜ Exported (recordPlan (record { number = 0x14; values = version ∷ event ∷ modifier ∷ seconds ∷ nanoseconds ∷ [] }) (now (body .entry))) (now (dst .entry)) (now (dst .exit)) r ⌝ }
+    ensures { λ r. ⌜ Exported (recordDraft (record { number = 0x14; values = version ∷ event ∷ modifier ∷ seconds ∷ nanoseconds ∷ [] }) (now (body .entry))) (now (dst .entry)) (now (dst .exit)) r ⌝ }
 {
     flat(write_record32(
         dst,
@@ -56,7 +56,7 @@ pub extern "C" fn bsm_write_record64(
     nanoseconds: u64,
     body: &[u8],
 ) -> BsmWritten
-    ensures { λ r. ⌜ Exported (recordPlan (record { number = 0x74; values = version ∷ event ∷ modifier ∷ seconds ∷ nanoseconds ∷ [] }) (now (body .entry))) (now (dst .entry)) (now (dst .exit)) r ⌝ }
+    ensures { λ r. ⌜ Exported (recordDraft (record { number = 0x74; values = version ∷ event ∷ modifier ∷ seconds ∷ nanoseconds ∷ [] }) (now (body .entry))) (now (dst .entry)) (now (dst .exit)) r ⌝ }
 {
     flat(write_record64(
         dst,

@@ -1,6 +1,6 @@
 // Writers of tokens that have a text, given without its zero byte.
 ghost use mathlib.Core.List.{[], _∷_};
-ghost use Rattle.bsm_write.specs.Write.{aText, tokenPlan};
+ghost use Rattle.bsm_write.specs.Given.{aText, tokenDraft};
 ghost use Rattle.bsm_export.specs.Written.{Exported};
 use crate::answer::BsmWritten;
 use crate::answer::flat;
@@ -11,14 +11,14 @@ use bsm_write::text::write_text;
 
 #[no_mangle]
 pub extern "C" fn bsm_write_path(dst: &mut [u8], text: &[u8]) -> BsmWritten
-    ensures { λ r. ⌜ Exported (tokenPlan 0x23 [] (aText (now (text .entry)))) (now (dst .entry)) (now (dst .exit)) r ⌝ }
+    ensures { λ r. ⌜ Exported (tokenDraft 0x23 [] (aText (now (text .entry)))) (now (dst .entry)) (now (dst .exit)) r ⌝ }
 {
     flat(write_path(dst, text))
 }
 
 #[no_mangle]
 pub extern "C" fn bsm_write_text(dst: &mut [u8], text: &[u8]) -> BsmWritten
-    ensures { λ r. ⌜ Exported (tokenPlan 0x28 [] (aText (now (text .entry)))) (now (dst .entry)) (now (dst .exit)) r ⌝ }
+    ensures { λ r. ⌜ Exported (tokenDraft 0x28 [] (aText (now (text .entry)))) (now (dst .entry)) (now (dst .exit)) r ⌝ }
 {
     flat(write_text(dst, text))
 }
@@ -30,7 +30,7 @@ pub extern "C" fn bsm_write_arg32(
     value: u32,
     text: &[u8],
 ) -> BsmWritten
-    ensures { λ r. ⌜ Exported (tokenPlan 0x2D (argument ∷ value ∷ []) (aText (now (text .entry)))) (now (dst .entry)) (now (dst .exit)) r ⌝ }
+    ensures { λ r. ⌜ Exported (tokenDraft 0x2D (argument ∷ value ∷ []) (aText (now (text .entry)))) (now (dst .entry)) (now (dst .exit)) r ⌝ }
 {
     flat(write_arg32(dst, argument, value, text))
 }
@@ -42,7 +42,7 @@ pub extern "C" fn bsm_write_arg64(
     value: u64,
     text: &[u8],
 ) -> BsmWritten
-    ensures { λ r. ⌜ Exported (tokenPlan 0x71 (argument ∷ value ∷ []) (aText (now (text .entry)))) (now (dst .entry)) (now (dst .exit)) r ⌝ }
+    ensures { λ r. ⌜ Exported (tokenDraft 0x71 (argument ∷ value ∷ []) (aText (now (text .entry)))) (now (dst .entry)) (now (dst .exit)) r ⌝ }
 {
     flat(write_arg64(dst, argument, value, text))
 }

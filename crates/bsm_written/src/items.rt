@@ -1,10 +1,10 @@
 // A file token and records: writing them, and printing their bytes.
 use crate::print::grouped;
 use crate::print::say;
+use bsm_bytes::answer::WriteAnswer;
 use bsm_token::number::minus;
 use bsm_token::part::part;
 use bsm_token::part::rest;
-use bsm_write::answer::WriteAnswer;
 use bsm_write::file::write_file;
 use bsm_write::record::HeaderFields;
 use bsm_write::record::write_record32;

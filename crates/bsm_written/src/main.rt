@@ -8,9 +8,9 @@ mod print;
 mod read;
 mod tokens;
 
+use bsm_bytes::bytes::write_bytes;
 use bsm_token::number::u8_at;
 use bsm_token::part::part;
-use bsm_write::bytes::write_bytes;
 use items::print_item;
 use items::write_item;
 use print::behind;

@@ -2,6 +2,7 @@
 use crate::print::hex;
 use crate::print::number;
 use crate::print::say;
+use bsm_bytes::answer::WriteAnswer;
 use bsm_item::item::Item;
 use bsm_item::item::ItemRead;
 use bsm_item::item::body_of;
@@ -16,7 +17,6 @@ use bsm_token::part::part;
 use bsm_token::refusal::Refusal;
 use bsm_token::token::TokenRead;
 use bsm_token::token::token_at;
-use bsm_write::answer::WriteAnswer;
 
 pub(crate) fn refused(f: Refusal) {
     say(b"refused");

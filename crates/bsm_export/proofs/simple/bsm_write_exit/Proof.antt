@@ -1,0 +1,14 @@
+-- `simple::bsm_write_exit` meets its contract. Assumes nothing.
+use Rattle.bsm_export.proofs.Answers.{exported}
+use borrow.Author.Needs.{needs}
+use Rattle.bsm_export.proofs.simple.bsm_write_exit.Statement.{statement}
+use Rattle.bsm_export.proofs.simple.bsm_write_exit.Tie as tie
+
+pub bsm-write-exit-spec : {M : Type 1} → statement M
+bsm-write-exit-spec =
+    tie.close
+    (tie.spec
+    (λ c κs. search needs)
+    (λ c κs. search needs)
+    (λ c. search needs)
+    (λ c. search (exported, needs)))
