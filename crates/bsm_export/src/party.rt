@@ -1,5 +1,6 @@
 // Writers of subject and process tokens, the port of 4 or of 8 bytes.
 ghost use mathlib.Core.List.{[], _∷_};
+ghost use Rattle.bsm_token.specs.Names.{process32Token, process64Token, subject32Token, subject64Token};
 ghost use Rattle.bsm_write.specs.Given.{nothing, tokenDraft};
 ghost use Rattle.bsm_export.specs.Written.{Exported};
 use crate::answer::BsmWritten;
@@ -24,7 +25,7 @@ pub extern "C" fn bsm_write_subject32(
     port: u32,
     address: u32,
 ) -> BsmWritten
-    ensures { λ r. ⌜ Exported (tokenDraft 0x24 (audit ∷ «effective_user» ∷ «effective_group» ∷ «real_user» ∷ «real_group» ∷ process ∷ session ∷ port ∷ address ∷ []) nothing) (now (dst .entry)) (now (dst .exit)) r ⌝ }
+    ensures { λ r. ⌜ Exported (tokenDraft subject32Token (audit ∷ «effective_user» ∷ «effective_group» ∷ «real_user» ∷ «real_group» ∷ process ∷ session ∷ port ∷ address ∷ []) nothing) (now (dst .entry)) (now (dst .exit)) r ⌝ }
 {
     flat(write_subject32(
         dst,
@@ -55,7 +56,7 @@ pub extern "C" fn bsm_write_process32(
     port: u32,
     address: u32,
 ) -> BsmWritten
-    ensures { λ r. ⌜ Exported (tokenDraft 0x26 (audit ∷ «effective_user» ∷ «effective_group» ∷ «real_user» ∷ «real_group» ∷ process ∷ session ∷ port ∷ address ∷ []) nothing) (now (dst .entry)) (now (dst .exit)) r ⌝ }
+    ensures { λ r. ⌜ Exported (tokenDraft process32Token (audit ∷ «effective_user» ∷ «effective_group» ∷ «real_user» ∷ «real_group» ∷ process ∷ session ∷ port ∷ address ∷ []) nothing) (now (dst .entry)) (now (dst .exit)) r ⌝ }
 {
     flat(write_process32(
         dst,
@@ -86,7 +87,7 @@ pub extern "C" fn bsm_write_subject64(
     port: u64,
     address: u32,
 ) -> BsmWritten
-    ensures { λ r. ⌜ Exported (tokenDraft 0x75 (audit ∷ «effective_user» ∷ «effective_group» ∷ «real_user» ∷ «real_group» ∷ process ∷ session ∷ port ∷ address ∷ []) nothing) (now (dst .entry)) (now (dst .exit)) r ⌝ }
+    ensures { λ r. ⌜ Exported (tokenDraft subject64Token (audit ∷ «effective_user» ∷ «effective_group» ∷ «real_user» ∷ «real_group» ∷ process ∷ session ∷ port ∷ address ∷ []) nothing) (now (dst .entry)) (now (dst .exit)) r ⌝ }
 {
     flat(write_subject64(
         dst,
@@ -117,7 +118,7 @@ pub extern "C" fn bsm_write_process64(
     port: u64,
     address: u32,
 ) -> BsmWritten
-    ensures { λ r. ⌜ Exported (tokenDraft 0x77 (audit ∷ «effective_user» ∷ «effective_group» ∷ «real_user» ∷ «real_group» ∷ process ∷ session ∷ port ∷ address ∷ []) nothing) (now (dst .entry)) (now (dst .exit)) r ⌝ }
+    ensures { λ r. ⌜ Exported (tokenDraft process64Token (audit ∷ «effective_user» ∷ «effective_group» ∷ «real_user» ∷ «real_group» ∷ process ∷ session ∷ port ∷ address ∷ []) nothing) (now (dst .entry)) (now (dst .exit)) r ⌝ }
 {
     flat(write_process64(
         dst,

@@ -1,5 +1,6 @@
 // Writers of file tokens and of records.
 ghost use mathlib.Core.List.{[], _∷_};
+ghost use Rattle.bsm_token.specs.Names.{header32Token, header64Token};
 ghost use Rattle.bsm_write.specs.Items.{fileDraft, recordDraft};
 ghost use Rattle.bsm_export.specs.Written.{Exported};
 use crate::answer::BsmWritten;
@@ -31,7 +32,7 @@ pub extern "C" fn bsm_write_record32(
     nanoseconds: u64,
     body: &[u8],
 ) -> BsmWritten
-    ensures { λ r. ⌜ Exported (recordDraft (record { number = 0x14; values = version ∷ event ∷ modifier ∷ seconds ∷ nanoseconds ∷ [] }) (now (body .entry))) (now (dst .entry)) (now (dst .exit)) r ⌝ }
+    ensures { λ r. ⌜ Exported (recordDraft (record { number = header32Token; values = version ∷ event ∷ modifier ∷ seconds ∷ nanoseconds ∷ [] }) (now (body .entry))) (now (dst .entry)) (now (dst .exit)) r ⌝ }
 {
     flat(write_record32(
         dst,
@@ -56,7 +57,7 @@ pub extern "C" fn bsm_write_record64(
     nanoseconds: u64,
     body: &[u8],
 ) -> BsmWritten
-    ensures { λ r. ⌜ Exported (recordDraft (record { number = 0x74; values = version ∷ event ∷ modifier ∷ seconds ∷ nanoseconds ∷ [] }) (now (body .entry))) (now (dst .entry)) (now (dst .exit)) r ⌝ }
+    ensures { λ r. ⌜ Exported (recordDraft (record { number = header64Token; values = version ∷ event ∷ modifier ∷ seconds ∷ nanoseconds ∷ [] }) (now (body .entry))) (now (dst .entry)) (now (dst .exit)) r ⌝ }
 {
     flat(write_record64(
         dst,

@@ -1,5 +1,6 @@
 // Writers of the other tokens that have values only.
 ghost use mathlib.Core.List.{[], _∷_};
+ghost use Rattle.bsm_token.specs.Names.{exitToken, inAddrToken, ipToken, ipcPermToken, iportToken, return32Token, return64Token, seqToken};
 ghost use Rattle.bsm_write.specs.Given.{nothing, tokenDraft};
 ghost use Rattle.bsm_export.specs.Written.{Exported};
 use crate::answer::BsmWritten;
@@ -17,42 +18,42 @@ use bsm_write::simple::write_seq;
 
 #[no_mangle]
 pub extern "C" fn bsm_write_return32(dst: &mut [u8], error: u8, value: u32) -> BsmWritten
-    ensures { λ r. ⌜ Exported (tokenDraft 0x27 (error ∷ value ∷ []) nothing) (now (dst .entry)) (now (dst .exit)) r ⌝ }
+    ensures { λ r. ⌜ Exported (tokenDraft return32Token (error ∷ value ∷ []) nothing) (now (dst .entry)) (now (dst .exit)) r ⌝ }
 {
     flat(write_return32(dst, error, value))
 }
 
 #[no_mangle]
 pub extern "C" fn bsm_write_return64(dst: &mut [u8], error: u8, value: u64) -> BsmWritten
-    ensures { λ r. ⌜ Exported (tokenDraft 0x72 (error ∷ value ∷ []) nothing) (now (dst .entry)) (now (dst .exit)) r ⌝ }
+    ensures { λ r. ⌜ Exported (tokenDraft return64Token (error ∷ value ∷ []) nothing) (now (dst .entry)) (now (dst .exit)) r ⌝ }
 {
     flat(write_return64(dst, error, value))
 }
 
 #[no_mangle]
 pub extern "C" fn bsm_write_in_addr(dst: &mut [u8], address: u32) -> BsmWritten
-    ensures { λ r. ⌜ Exported (tokenDraft 0x2A (address ∷ []) nothing) (now (dst .entry)) (now (dst .exit)) r ⌝ }
+    ensures { λ r. ⌜ Exported (tokenDraft inAddrToken (address ∷ []) nothing) (now (dst .entry)) (now (dst .exit)) r ⌝ }
 {
     flat(write_in_addr(dst, address))
 }
 
 #[no_mangle]
 pub extern "C" fn bsm_write_iport(dst: &mut [u8], port: u16) -> BsmWritten
-    ensures { λ r. ⌜ Exported (tokenDraft 0x2C (port ∷ []) nothing) (now (dst .entry)) (now (dst .exit)) r ⌝ }
+    ensures { λ r. ⌜ Exported (tokenDraft iportToken (port ∷ []) nothing) (now (dst .entry)) (now (dst .exit)) r ⌝ }
 {
     flat(write_iport(dst, port))
 }
 
 #[no_mangle]
 pub extern "C" fn bsm_write_seq(dst: &mut [u8], sequence: u32) -> BsmWritten
-    ensures { λ r. ⌜ Exported (tokenDraft 0x2F (sequence ∷ []) nothing) (now (dst .entry)) (now (dst .exit)) r ⌝ }
+    ensures { λ r. ⌜ Exported (tokenDraft seqToken (sequence ∷ []) nothing) (now (dst .entry)) (now (dst .exit)) r ⌝ }
 {
     flat(write_seq(dst, sequence))
 }
 
 #[no_mangle]
 pub extern "C" fn bsm_write_exit(dst: &mut [u8], status: u32, value: u32) -> BsmWritten
-    ensures { λ r. ⌜ Exported (tokenDraft 0x52 (status ∷ value ∷ []) nothing) (now (dst .entry)) (now (dst .exit)) r ⌝ }
+    ensures { λ r. ⌜ Exported (tokenDraft exitToken (status ∷ value ∷ []) nothing) (now (dst .entry)) (now (dst .exit)) r ⌝ }
 {
     flat(write_exit(dst, status, value))
 }
@@ -71,7 +72,7 @@ pub extern "C" fn bsm_write_ip(
     source: u32,
     destination: u32,
 ) -> BsmWritten
-    ensures { λ r. ⌜ Exported (tokenDraft 0x2B (version ∷ service ∷ length ∷ id ∷ offset ∷ ttl ∷ protocol ∷ checksum ∷ source ∷ destination ∷ []) nothing) (now (dst .entry)) (now (dst .exit)) r ⌝ }
+    ensures { λ r. ⌜ Exported (tokenDraft ipToken (version ∷ service ∷ length ∷ id ∷ offset ∷ ttl ∷ protocol ∷ checksum ∷ source ∷ destination ∷ []) nothing) (now (dst .entry)) (now (dst .exit)) r ⌝ }
 {
     flat(write_ip(
         dst,
@@ -101,7 +102,7 @@ pub extern "C" fn bsm_write_ipc_perm(
     sequence: u32,
     key: u32,
 ) -> BsmWritten
-    ensures { λ r. ⌜ Exported (tokenDraft 0x32 (user ∷ group ∷ «creator_user» ∷ «creator_group» ∷ mode ∷ sequence ∷ key ∷ []) nothing) (now (dst .entry)) (now (dst .exit)) r ⌝ }
+    ensures { λ r. ⌜ Exported (tokenDraft ipcPermToken (user ∷ group ∷ «creator_user» ∷ «creator_group» ∷ mode ∷ sequence ∷ key ∷ []) nothing) (now (dst .entry)) (now (dst .exit)) r ⌝ }
 {
     flat(write_ipc_perm(
         dst,

@@ -1,5 +1,6 @@
 // Writers of opaque, newgroups and exec tokens.
 ghost use mathlib.Core.List.{[]};
+ghost use Rattle.bsm_token.specs.Names.{execArgsToken, execEnvToken, newgroupsToken, opaqueToken};
 ghost use Rattle.bsm_write.specs.Given.{someBytes, someGroups, someStrings, tokenDraft};
 ghost use Rattle.bsm_export.specs.Written.{Exported};
 use crate::answer::BsmWritten;
@@ -11,28 +12,28 @@ use bsm_write::tail::write_opaque;
 
 #[no_mangle]
 pub extern "C" fn bsm_write_opaque(dst: &mut [u8], bytes: &[u8]) -> BsmWritten
-    ensures { λ r. ⌜ Exported (tokenDraft 0x29 [] (someBytes (now (bytes .entry)))) (now (dst .entry)) (now (dst .exit)) r ⌝ }
+    ensures { λ r. ⌜ Exported (tokenDraft opaqueToken [] (someBytes (now (bytes .entry)))) (now (dst .entry)) (now (dst .exit)) r ⌝ }
 {
     flat(write_opaque(dst, bytes))
 }
 
 #[no_mangle]
 pub extern "C" fn bsm_write_newgroups(dst: &mut [u8], groups: &[u32]) -> BsmWritten
-    ensures { λ r. ⌜ Exported (tokenDraft 0x3B [] (someGroups (now (groups .entry)))) (now (dst .entry)) (now (dst .exit)) r ⌝ }
+    ensures { λ r. ⌜ Exported (tokenDraft newgroupsToken [] (someGroups (now (groups .entry)))) (now (dst .entry)) (now (dst .exit)) r ⌝ }
 {
     flat(write_newgroups(dst, groups))
 }
 
 #[no_mangle]
 pub extern "C" fn bsm_write_exec_args(dst: &mut [u8], count: u32, strings: &[u8]) -> BsmWritten
-    ensures { λ r. ⌜ Exported (tokenDraft 0x3C [] (someStrings count (now (strings .entry)))) (now (dst .entry)) (now (dst .exit)) r ⌝ }
+    ensures { λ r. ⌜ Exported (tokenDraft execArgsToken [] (someStrings count (now (strings .entry)))) (now (dst .entry)) (now (dst .exit)) r ⌝ }
 {
     flat(write_exec_args(dst, count, strings))
 }
 
 #[no_mangle]
 pub extern "C" fn bsm_write_exec_env(dst: &mut [u8], count: u32, strings: &[u8]) -> BsmWritten
-    ensures { λ r. ⌜ Exported (tokenDraft 0x3D [] (someStrings count (now (strings .entry)))) (now (dst .entry)) (now (dst .exit)) r ⌝ }
+    ensures { λ r. ⌜ Exported (tokenDraft execEnvToken [] (someStrings count (now (strings .entry)))) (now (dst .entry)) (now (dst .exit)) r ⌝ }
 {
     flat(write_exec_env(dst, count, strings))
 }
