@@ -38,7 +38,7 @@ module _ {r : BsmWritten} where
     where
       go : (w : Walk) → bodyRead w ≡ Tokens n → numbers n zeros ≡ flatWalk w
       go (tokens k) h = ap (λ m. numbers m zeros) (cc)
-      go (bad x p) h = let z : _≡_ {A = ℕ} 0 1 = cc in absurd (omega arith)
+      go (bad x) h = let z : _≡_ {A = ℕ} 0 1 = cc in absurd (omega arith)
 
   pub walk-refused : (s : List ℕ) {y : BodyRead} (f : Refusal) → y ≡ bodyRead (walk s) → y ≡ BadBody f → r ≡ numbers 0 f → r ≡ flatWalk (walk s)
   unfolding flatWalk flatWritten
@@ -46,4 +46,4 @@ module _ {r : BsmWritten} where
     where
       go : (w : Walk) → bodyRead w ≡ BadBody f → numbers 0 f ≡ flatWalk w
       go (tokens k) h = let z : _≡_ {A = ℕ} 0 1 = cc in absurd (omega arith)
-      go (bad x p) h = ap (numbers 0) (cc)
+      go (bad x) h = ap (numbers 0) (cc)

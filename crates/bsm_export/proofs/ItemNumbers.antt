@@ -4,43 +4,45 @@ use mathlib.Core.List.{List, [], _∷_}
 use Prim.Native.Nat.{ℕ}
 use Rattle.bsm_token.specs.declared.refusal.Refusal.{Refusal}
 use Rattle.bsm_item.specs.Item.{itemAt}
-use Rattle.bsm_item.specs.Meaning.{headMeant, itemMeant, readMeant}
+use Rattle.bsm_item.specs.Meaning.{headMeant, noPart, partMeant, itemMeant, located, readMeant}
 use Rattle.bsm_item.specs.declared.item.Header.{Header}
 use Rattle.bsm_item.specs.declared.item.Item.{Item as Found}
 use Rattle.bsm_item.specs.declared.item.Item.the-variants.{File, Record}
 use Rattle.bsm_item.specs.declared.item.ItemRead.{ItemRead}
 use Rattle.bsm_item.specs.declared.item.ItemRead.the-variants.{Found as FoundItem, End, Refused}
-use Rattle.bsm_export.specs.Items.{foundItem, noItem, flatFound, flatItem}
+use Rattle.bsm_export.specs.Items.{foundItem, noItem, flatFound, flatAnswer, flatItem}
 use Rattle.bsm_export.specs.declared.item.BsmItem.{BsmItem}
 use Rattle.bsm_export.proofs.Refusals.{zeros, by-numbers}
 
 module _ {q : BsmItem} where
   -- ---- by the item
 
-  pub file-flat : {i : Found} (n x y : ℕ) → i ≡ File n x y → q ≡ foundItem 1 n 0 (0 ∷ 0 ∷ 0 ∷ x ∷ y ∷ []) 0 → (s : List ℕ) (p : ℕ) → q ≡ flatFound (itemMeant s p i)
+  pub file-flat : {i : Found} (n x y a l : ℕ) → i ≡ File n x y a l → q ≡ foundItem 1 n 0 (0 ∷ 0 ∷ 0 ∷ x ∷ y ∷ []) 0 (record { start = a; length = l })
+      → (s : List ℕ) → q ≡ flatFound (itemMeant s i) (partMeant i)
   unfolding flatFound
-  file-flat n x y e h s p = h ∙ ap (λ j. flatFound (itemMeant s p j)) (sym e)
+  file-flat n x y a l e h s = h ∙ ap (λ j. flatFound (itemMeant s j) (partMeant j)) (sym e)
 
-  pub record-flat : {i : Found} (n : ℕ) (d : Header) (c : ℕ) → i ≡ Record n d c
-      → q ≡ foundItem 2 n (d .number) (d .version ∷ d .event ∷ d .modifier ∷ d .seconds ∷ d .nanoseconds ∷ []) c → (s : List ℕ) (p : ℕ) → q ≡ flatFound (itemMeant s p i)
+  pub record-flat : {i : Found} (n : ℕ) (d : Header) (c a l : ℕ) → i ≡ Record n d c a l
+      → q ≡ foundItem 2 n (d .number) (d .version ∷ d .event ∷ d .modifier ∷ d .seconds ∷ d .nanoseconds ∷ []) c (record { start = a; length = l })
+      → (s : List ℕ) → q ≡ flatFound (itemMeant s i) (partMeant i)
   unfolding flatFound headMeant
-  record-flat n d c e h s p = h ∙ ap (λ j. flatFound (itemMeant s p j)) (sym e)
+  record-flat n d c a l e h s = h ∙ ap (λ j. flatFound (itemMeant s j) (partMeant j)) (sym e)
 
   -- ---- by the answer
 
-  pub found-flat : {r : ItemRead} (i : Found) → r ≡ FoundItem i → ((s : List ℕ) (p : ℕ) → q ≡ flatFound (itemMeant s p i)) → (s : List ℕ) (p : ℕ) → q ≡ flatItem (readMeant s p r)
-  unfolding flatItem
-  found-flat i e h s p = h s p ∙ ap (λ x. flatItem (readMeant s p x)) (sym e)
+  pub found-flat : {r : ItemRead} (i : Found) → r ≡ FoundItem i → ((s : List ℕ) → q ≡ flatFound (itemMeant s i) (partMeant i)) → (s : List ℕ) → q ≡ flatItem (readMeant s r)
+  unfolding flatAnswer
+  found-flat i e h s = h s ∙ ap (λ x. flatItem (readMeant s x)) (sym e)
 
   pub end-flat : {r : ItemRead} {f : Refusal} → r ≡ End → f ≡ zeros → q ≡ noItem 0 (f .number) (f .place) (f .need)
-      → (s : List ℕ) (p : ℕ) → q ≡ flatItem (readMeant s p r)
-  unfolding flatItem
-  end-flat e z h s p = h ∙ ap (λ x. noItem 0 (x .number) (x .place) (x .need)) z ∙ ap (λ x. flatItem (readMeant s p x)) (sym e)
+      → (s : List ℕ) → q ≡ flatItem (readMeant s r)
+  unfolding flatAnswer
+  end-flat e z h s = h ∙ ap (λ x. noItem 0 (x .number) (x .place) (x .need)) z ∙ ap (λ x. flatItem (readMeant s x)) (sym e)
 
-  pub refused-flat : {r : ItemRead} (f : Refusal) → r ≡ Refused f → q ≡ noItem 3 (f .number) (f .place) (f .need) → (s : List ℕ) (p : ℕ) → q ≡ flatItem (readMeant s p r)
-  unfolding flatItem
-  refused-flat f e h s p =
-      h ∙ by-numbers flatItem (noItem 3) (λ p n. refl) (λ e p n. refl) f ∙ ap (λ x. flatItem (readMeant s p x)) (sym e)
+  pub refused-flat : {r : ItemRead} (f : Refusal) → r ≡ Refused f → q ≡ noItem 3 (f .number) (f .place) (f .need) → (s : List ℕ) → q ≡ flatItem (readMeant s r)
+  unfolding flatAnswer
+  refused-flat f e h s =
+      h ∙ by-numbers (λ a. flatAnswer a noPart) (noItem 3) (λ p n. refl) (λ e p n. refl) f ∙ ap (λ x. flatItem (readMeant s x)) (sym e)
 
-  pub answer-flat : (s : List ℕ) (p : ℕ) (r : ItemRead) → readMeant s p r ≡ itemAt s p → ((t : List ℕ) (k : ℕ) → q ≡ flatItem (readMeant t k r)) → q ≡ flatItem (itemAt s p)
-  answer-flat s p r e h = h s p ∙ ap flatItem e
+  pub answer-flat : (s : List ℕ) (p : ℕ) (r : ItemRead) → readMeant s r ≡ located p (itemAt s p) → ((t : List ℕ) → q ≡ flatItem (readMeant t r)) → q ≡ flatItem (located p (itemAt s p))
+  answer-flat s p r e h = h s ∙ ap flatItem e

@@ -2,124 +2,93 @@
 use mathlib.Core.Path.{_≡_, refl, sym, ap, ap₂, _∙_}
 use mathlib.Core.Bool.{Bool, true, false}
 use mathlib.Core.List.{List, []}
-use Prim.Native.Nat.{ℕ, _+_, _-_, _≤_}
-use native.Mathlib.Omega.{arith}
-use lib.ListN.{length, take, drop, length-drop}
-use lib.Seq.{drop-drop, length-take-le}
-use Rattle.bsm_token.specs.Number.{field, sum}
-use Rattle.bsm_token.specs.Layout.{rows, rowIn, rowOf, before, behind, layout, fixed}
-use Rattle.bsm_token.specs.Token.{Token, Extent, extentOf, TokenAnswer, token, end as tokenEnd, refusal as tokenRefusal, tokenAt, hasString, stringOf}
+use Prim.Native.Nat.{ℕ}
+use lib.ListN.{length, take, drop}
+use lib.Seq.{drop-drop}
+use Rattle.bsm_token.specs.Number.{field}
+use Rattle.bsm_token.specs.Layout.{rowOf, fixed}
+use Rattle.bsm_token.specs.Token.{Token, Extent, extentOf, TokenAnswer, token, end as tokenEnd, refusal as tokenRefusal, tokenAt, hasString, stringOf, stringStart}
 use Rattle.bsm_token.specs.Flat.{flatToken}
 use Rattle.bsm_token.specs.declared.flat.FlatToken.{FlatToken}
 use Rattle.bsm_token.specs.declared.refusal.Refusal.{Refusal}
 use Rattle.bsm_token.proofs.Reader.{token-at}
 use Rattle.bsm_token.proofs.Tokens.{size-some, tail-take, tail-length}
-use Rattle.bsm_item.specs.Item.{partOf, partStart, Answer, item, end, short, refusal, itemAt}
-use Rattle.bsm_item.specs.Meaning.{headMeant, headSize, itemMeant, refusalMeant, readMeant, sizeFound}
+use Rattle.bsm_item.specs.Item.{Answer, item, end, short, refusal, itemAt}
+use Rattle.bsm_item.specs.Meaning.{itemMeant, partMeant, refusalMeant, partAt, located, readMeant}
 use Rattle.bsm_item.specs.declared.item.Header.{Header}
 use Rattle.bsm_item.specs.declared.item.Item.{Item as Found}
 use Rattle.bsm_item.specs.declared.item.Item.the-variants.{File, Record}
 use Rattle.bsm_item.specs.declared.item.ItemRead.{ItemRead}
 use Rattle.bsm_item.specs.declared.item.ItemRead.the-variants.{Found as FoundItem, End, Refused}
-use Rattle.bsm_item.proofs.Longer.{item-long}
-use Rattle.bsm_export.specs.Items.{FoundAt, Stands, bodyOf, bodyStart, nameOf, nameStart}
-use Rattle.bsm_export.specs.Tokens.{stringStart}
+use Rattle.bsm_export.specs.Items.{PartTold, bodyOf, bodyStart, nameOf, nameStart}
 use Rattle.bsm_export.specs.declared.item.BsmPart.{BsmPart}
 use Rattle.bsm_export.proofs.Refusals.{by-numbers}
 
 abbrev part : ℕ → ℕ → BsmPart
 part a n = record { start = a; length = n }
 
--- n bytes that are there
-stands : (s : List ℕ) (a n : ℕ) {q : BsmPart} → n ≤ length s - a → q ≡ part a n → Stands s (take n (drop a s)) a q
-stands s a n h e =
-    rw e (record { start = refl; long = sym (length-take-le n (drop a s) (omega (arith, length-drop a s))); bytes = refl })
-
-nowhere : (s : List ℕ) {q : BsmPart} → q ≡ part 0 0 → Stands s [] 0 q
-nowhere s e = rw e (record { start = refl; long = refl; bytes = refl })
+nothing-told : (s : List ℕ) {q : BsmPart} → q ≡ part 0 0 → PartTold s [] 0 q
+nothing-told s e = rw e (record { start = refl; long = refl; bytes = refl })
 
 -- ---- the part of an item
 
-size-within : (s : List ℕ) (p : ℕ) (i : Found) → FoundAt s p (itemMeant s p i) → p + sizeFound i ≤ length s
-size-within s p (File n x y) e = item-long s p (itemMeant s p (File n x y)) e .1
-size-within s p (Record n d c) e = item-long s p (itemMeant s p (Record n d c)) e .1
+module _ (s : List ℕ) (p : ℕ) (r : ItemRead) (e : readMeant s r ≡ located p (itemAt s p)) where
+  answer : {y : ItemRead} → r ≡ y → itemAt s p ≡ readMeant s y .answer
+  answer f = sym (ap (λ y. y .answer) e) ∙ ap (λ y. readMeant s y .answer) f
 
--- its place is in the trail
-pub place-within : (s : List ℕ) (p : ℕ) (i : Found) → FoundAt s p (itemMeant s p i) → p ≤ length s
-place-within s p i e = omega (arith, size-within s p i e)
-
-pub file-part : (s : List ℕ) (p n x y : ℕ) {i : Found} {a b : ℕ} {q : BsmPart} → FoundAt s p (itemMeant s p i) → i ≡ File n x y → a ≡ n - 11 → b ≡ a - 1 → q ≡ part (p + 11) b
-    → Stands s (partOf (itemMeant s p i)) (p + partStart (itemMeant s p i)) q
-unfolding rows rowIn rowOf before behind layout fixed sum
-file-part s p n x y {i} {a} {b} {q} e f ha hb g =
-    let k : b ≡ n - 11 - 1 = omega arith in
-    let l : p + n ≤ length s = size-within s p (File n x y) (rw f at e) in
-    rw f (stands s (p + 11) (n - 11 - 1) (omega arith) (g ∙ ap (part (p + 11)) k))
-
-pub record-part : (s : List ℕ) (p n : ℕ) (d : Header) (c : ℕ) {i : Found} {h a b : ℕ} {q : BsmPart} → FoundAt s p (itemMeant s p i) → i ≡ Record n d c → h ≡ headSize d → a ≡ n - 7
-    → b ≡ a - h → q ≡ part (p + h) b → Stands s (partOf (itemMeant s p i)) (p + partStart (itemMeant s p i)) q
-unfolding headMeant
-record-part s p n d c {i} {h} {a} {b} {q} e f z ha hb g =
-    let k : b ≡ n - 7 - headSize d = omega arith in
-    let l : p + n ≤ length s = size-within s p (Record n d c) (rw f at e) in
-    rw f (stands s (p + headSize d) (n - 7 - headSize d) (omega arith) (g ∙ ap₂ (λ x y. part (p + x) y) z k))
-
--- ---- at a place
-
-module _ (s : List ℕ) (p : ℕ) (r : ItemRead) (e : readMeant s p r ≡ itemAt s p) where
-  pub found-at : (i : Found) → r ≡ FoundItem i → FoundAt s p (itemMeant s p i)
-  found-at i f = sym e ∙ ap (readMeant s p) f
+  -- where the part of the item i stands
+  place-of : (i : Found) → r ≡ FoundItem i → partMeant i ≡ partAt p (item (itemMeant s i))
+  place-of i f = ap (λ y. readMeant s y .part) (sym f) ∙ ap (λ y. y .part) e ∙ ap (partAt p) (answer f)
 
   -- a part, by its bytes and its start, for each answer
   module _ (bytes : Answer → List ℕ) (start : Answer → ℕ) {q : BsmPart} where
-    stands-at : {a : Answer} → itemAt s p ≡ a → Stands s (bytes a) (start a) q → Stands s (bytes (itemAt s p)) (start (itemAt s p)) q
-    stands-at f h = rw f h
+    told-at : {a : Answer} → itemAt s p ≡ a → PartTold s (bytes a) (start a) q → PartTold s (bytes (itemAt s p)) (start (itemAt s p)) q
+    told-at f h = rw f h
 
-    none-at : (a : Answer) → itemAt s p ≡ a → [] ≡ bytes a → 0 ≡ start a → q ≡ part 0 0 → Stands s (bytes (itemAt s p)) (start (itemAt s p)) q
-    none-at a f b c h = stands-at f (rw (← b, ← c) (nowhere s h))
+    none-at : (a : Answer) → itemAt s p ≡ a → [] ≡ bytes a → 0 ≡ start a → q ≡ part 0 0 → PartTold s (bytes (itemAt s p)) (start (itemAt s p)) q
+    none-at a f b c h = told-at f (rw (← b, ← c) (nothing-told s h))
 
-    -- none at the end, nor where something is refused
-    end-at : r ≡ End → [] ≡ bytes end → 0 ≡ start end → q ≡ part 0 0 → Stands s (bytes (itemAt s p)) (start (itemAt s p)) q
-    end-at f b c h = none-at end (sym e ∙ ap (readMeant s p) f) b c h
-
+    -- none where something is refused
     refused-at : (f : Refusal) → r ≡ Refused f → ((k n : ℕ) → ([] ≡ bytes (short k n)) × (0 ≡ start (short k n))) → ((j k n : ℕ) → ([] ≡ bytes (refusal j k n)) × (0 ≡ start (refusal j k n))) → q ≡ part 0 0
-        → Stands s (bytes (itemAt s p)) (start (itemAt s p)) q
+        → PartTold s (bytes (itemAt s p)) (start (itemAt s p)) q
     refused-at f g x y h =
-        none-at (refusalMeant f) (sym e ∙ ap (readMeant s p) g) (by-numbers bytes (λ j k n. []) (λ k n. x k n .0) (λ j k n. y j k n .0) f)
+        none-at (refusalMeant f) (answer g) (by-numbers bytes (λ j k n. []) (λ k n. x k n .0) (λ j k n. y j k n .0) f)
         (by-numbers start (λ j k n. 0) (λ k n. x k n .1) (λ j k n. y j k n .1) f) h
 
   module _ {q : BsmPart} where
-    pub body-of : (i : Found) (n : ℕ) (d : Header) (c : ℕ) → r ≡ FoundItem i → i ≡ Record n d c → Stands s (partOf (itemMeant s p i)) (p + partStart (itemMeant s p i)) q
-        → Stands s (bodyOf (itemAt s p)) (bodyStart p (itemAt s p)) q
+    pub body-of : (i : Found) (n : ℕ) (d : Header) (c a l : ℕ) → r ≡ FoundItem i → i ≡ Record n d c a l → q ≡ part a l → PartTold s (bodyOf (itemAt s p)) (bodyStart p (itemAt s p)) q
     unfolding bodyOf bodyStart
-    body-of i n d c f g h = stands-at bodyOf (bodyStart p) (found-at i f ∙ ap (λ j. item (itemMeant s p j)) g) (rw g at h)
+    body-of i n d c a l f g h =
+        let w = place-of (Record n d c a l) (f ∙ ap FoundItem g) in
+        told-at bodyOf (bodyStart p) (answer (f ∙ ap FoundItem g)) (rw h (record { start = ap (λ y. y .start) w; long = ap (λ y. y .length) w; bytes = refl }))
 
-    pub body-none : (i : Found) (n x y : ℕ) → r ≡ FoundItem i → i ≡ File n x y → q ≡ part 0 0 → Stands s (bodyOf (itemAt s p)) (bodyStart p (itemAt s p)) q
+    pub body-none : (i : Found) (n x y a l : ℕ) → r ≡ FoundItem i → i ≡ File n x y a l → q ≡ part 0 0 → PartTold s (bodyOf (itemAt s p)) (bodyStart p (itemAt s p)) q
     unfolding bodyOf bodyStart
-    body-none i n x y f g h = stands-at bodyOf (bodyStart p) (found-at i f ∙ ap (λ j. item (itemMeant s p j)) g) (nowhere s h)
+    body-none i n x y a l f g h = told-at bodyOf (bodyStart p) (answer (f ∙ ap FoundItem g)) (nothing-told s h)
 
-    pub body-end : r ≡ End → q ≡ part 0 0 → Stands s (bodyOf (itemAt s p)) (bodyStart p (itemAt s p)) q
+    pub body-end : r ≡ End → q ≡ part 0 0 → PartTold s (bodyOf (itemAt s p)) (bodyStart p (itemAt s p)) q
     unfolding bodyOf bodyStart
-    body-end f h = end-at bodyOf (bodyStart p) f refl refl h
+    body-end f h = none-at bodyOf (bodyStart p) end (answer f) refl refl h
 
-    pub body-refused : (f : Refusal) → r ≡ Refused f → q ≡ part 0 0 → Stands s (bodyOf (itemAt s p)) (bodyStart p (itemAt s p)) q
+    pub body-refused : (f : Refusal) → r ≡ Refused f → q ≡ part 0 0 → PartTold s (bodyOf (itemAt s p)) (bodyStart p (itemAt s p)) q
     unfolding bodyOf bodyStart
     body-refused f g h = refused-at bodyOf (bodyStart p) f g (λ k n. (refl, refl)) (λ j k n. (refl, refl)) h
 
-    pub name-of : (i : Found) (n x y : ℕ) → r ≡ FoundItem i → i ≡ File n x y → Stands s (partOf (itemMeant s p i)) (p + partStart (itemMeant s p i)) q
-        → Stands s (nameOf (itemAt s p)) (nameStart p (itemAt s p)) q
+    pub name-of : (i : Found) (n x y a l : ℕ) → r ≡ FoundItem i → i ≡ File n x y a l → q ≡ part a l → PartTold s (nameOf (itemAt s p)) (nameStart p (itemAt s p)) q
     unfolding nameOf nameStart
-    name-of i n x y f g h = stands-at nameOf (nameStart p) (found-at i f ∙ ap (λ j. item (itemMeant s p j)) g) (rw g at h)
+    name-of i n x y a l f g h =
+        let w = place-of (File n x y a l) (f ∙ ap FoundItem g) in
+        told-at nameOf (nameStart p) (answer (f ∙ ap FoundItem g)) (rw h (record { start = ap (λ y. y .start) w; long = ap (λ y. y .length) w; bytes = refl }))
 
-    pub name-none : (i : Found) (n : ℕ) (d : Header) (c : ℕ) → r ≡ FoundItem i → i ≡ Record n d c → q ≡ part 0 0 → Stands s (nameOf (itemAt s p)) (nameStart p (itemAt s p)) q
+    pub name-none : (i : Found) (n : ℕ) (d : Header) (c a l : ℕ) → r ≡ FoundItem i → i ≡ Record n d c a l → q ≡ part 0 0 → PartTold s (nameOf (itemAt s p)) (nameStart p (itemAt s p)) q
     unfolding nameOf nameStart
-    name-none i n d c f g h = stands-at nameOf (nameStart p) (found-at i f ∙ ap (λ j. item (itemMeant s p j)) g) (nowhere s h)
+    name-none i n d c a l f g h = told-at nameOf (nameStart p) (answer (f ∙ ap FoundItem g)) (nothing-told s h)
 
-    pub name-end : r ≡ End → q ≡ part 0 0 → Stands s (nameOf (itemAt s p)) (nameStart p (itemAt s p)) q
+    pub name-end : r ≡ End → q ≡ part 0 0 → PartTold s (nameOf (itemAt s p)) (nameStart p (itemAt s p)) q
     unfolding nameOf nameStart
-    name-end f h = end-at nameOf (nameStart p) f refl refl h
+    name-end f h = none-at nameOf (nameStart p) end (answer f) refl refl h
 
-    pub name-refused : (f : Refusal) → r ≡ Refused f → q ≡ part 0 0 → Stands s (nameOf (itemAt s p)) (nameStart p (itemAt s p)) q
+    pub name-refused : (f : Refusal) → r ≡ Refused f → q ≡ part 0 0 → PartTold s (nameOf (itemAt s p)) (nameStart p (itemAt s p)) q
     unfolding nameOf nameStart
     name-refused f g h = refused-at nameOf (nameStart p) f g (λ k n. (refl, refl)) (λ j k n. (refl, refl)) h
 
@@ -130,7 +99,7 @@ module _ (s : List ℕ) (p : ℕ) (r : ItemRead) (e : readMeant s p r ≡ itemAt
 -- ---- the string of a token
 
 -- the tail of a token at p
-tail-stands : (s : List ℕ) (p : ℕ) {t : Token} {x : Extent} {q : BsmPart} → tokenAt s p ≡ token t x → q ≡ part (x .start) (x .length) → Stands s (t .tail) (x .start) q
+tail-stands : (s : List ℕ) (p : ℕ) {t : Token} {x : Extent} {q : BsmPart} → tokenAt s p ≡ token t x → q ≡ part (x .start) (x .length) → PartTold s (t .tail) (x .start) q
 unfolding extentOf
 tail-stands s p {t} {x} f e =
     let h = token-at s p f in
@@ -150,20 +119,20 @@ module _ (s : List ℕ) (p : ℕ) (r : FlatToken) (e : r ≡ flatToken (tokenAt 
   unfolding flatToken
   has h f = ap (λ a. hasString (flatToken a .token)) (sym f) ∙ ap (λ y. hasString (y .token)) (sym e) ∙ sym g ∙ h
 
-  pub string-at : {q : BsmPart} → b ≡ true → q ≡ part (r .start) (r .length) → Stands s (stringOf (tokenAt s p)) (stringStart (tokenAt s p)) q
+  pub string-at : {q : BsmPart} → b ≡ true → q ≡ part (r .start) (r .length) → PartTold s (stringOf (tokenAt s p)) (stringStart (tokenAt s p)) q
   unfolding flatToken stringOf stringStart
   string-at {q} h z = go (tokenAt s p) refl (z ∙ ap (λ y. part (y .start) (y .length)) e)
     where
-      go : (a : TokenAnswer) → tokenAt s p ≡ a → q ≡ part (flatToken a .start) (flatToken a .length) → Stands s (stringOf a) (stringStart a) q
+      go : (a : TokenAnswer) → tokenAt s p ≡ a → q ≡ part (flatToken a .start) (flatToken a .length) → PartTold s (stringOf a) (stringStart a) q
       go (token t x) f z = rw (has h f) (tail-stands s p f z)
-      go tokenEnd f z = nowhere s z
-      go (tokenRefusal i j k) f z = nowhere s z
+      go tokenEnd f z = nothing-told s z
+      go (tokenRefusal i j k) f z = nothing-told s z
 
-  pub string-none : {q : BsmPart} → b ≡ false → q ≡ part 0 0 → Stands s (stringOf (tokenAt s p)) (stringStart (tokenAt s p)) q
+  pub string-none : {q : BsmPart} → b ≡ false → q ≡ part 0 0 → PartTold s (stringOf (tokenAt s p)) (stringStart (tokenAt s p)) q
   unfolding stringOf stringStart
   string-none {q} h z = go (tokenAt s p) refl
     where
-      go : (a : TokenAnswer) → tokenAt s p ≡ a → Stands s (stringOf a) (stringStart a) q
-      go (token t x) f = rw (has h f) (nowhere s z)
-      go tokenEnd f = nowhere s z
-      go (tokenRefusal i j k) f = nowhere s z
+      go : (a : TokenAnswer) → tokenAt s p ≡ a → PartTold s (stringOf a) (stringStart a) q
+      go (token t x) f = rw (has h f) (nothing-told s z)
+      go tokenEnd f = nothing-told s z
+      go (tokenRefusal i j k) f = nothing-told s z

@@ -4,7 +4,7 @@ use mathlib.Core.List.{List}
 use Prim.Native.Nat.{ℕ}
 use Rattle.bsm_token.specs.declared.refusal.Refusal.{Refusal}
 use Rattle.bsm_item.specs.Reading.{Outcome}
-use Rattle.bsm_item.specs.Meaning.{readMeant, stateMeant, stepMeant, endingMeant, runMeant}
+use Rattle.bsm_item.specs.Meaning.{readMeant, stateMeant, StepAnswer, stepMeant, endingMeant, runMeant}
 use Rattle.bsm_item.specs.declared.item.Item.{Item as Found}
 use Rattle.bsm_item.specs.declared.item.ItemRead.the-variants.{Found as FoundItem, End, Refused}
 use Rattle.bsm_item.specs.declared.state.State.{State as Place}
@@ -21,18 +21,18 @@ use Rattle.bsm_export.proofs.Refusals.{zeros, by-numbers}
 -- ---- one step
 
 -- x is the step from the state st to the state n, and r its answer
-module _ (s : List ℕ) (st : Place) (x : Step) {o : Outcome} (e : stepMeant s st x ≡ o) {j : BsmItem} {q : BsmStep} where
-  pub step-item : (i : Found) (n : Place) → x ≡ StepItem i n → ((t : List ℕ) (k : ℕ) → j ≡ flatItem (readMeant t k (FoundItem i))) → q ≡ stepWith j (stateMeant n) → q ≡ flatStep o
+module _ (s : List ℕ) (st : Place) (x : Step) {o : StepAnswer} (e : stepMeant s st x ≡ o) {j : BsmItem} {q : BsmStep} where
+  pub step-item : (i : Found) (n : Place) → x ≡ StepItem i n → ((t : List ℕ) → j ≡ flatItem (readMeant t (FoundItem i))) → q ≡ stepWith j (stateMeant n) → q ≡ flatStep o
   unfolding flatStep
-  step-item i n f h g = g ∙ ap (λ y. stepWith y (stateMeant n)) (h s (st .place)) ∙ ap (λ y. flatStep (stepMeant s st y)) (sym f) ∙ ap flatStep e
+  step-item i n f h g = g ∙ ap (λ y. stepWith y (stateMeant n)) (h s) ∙ ap (λ y. flatStep (stepMeant s st y)) (sym f) ∙ ap flatStep e
 
-  pub step-end : x ≡ StepEnd → ((t : List ℕ) (k : ℕ) → j ≡ flatItem (readMeant t k End)) → q ≡ stepWith j (stateMeant st) → q ≡ flatStep o
+  pub step-end : x ≡ StepEnd → ((t : List ℕ) → j ≡ flatItem (readMeant t End)) → q ≡ stepWith j (stateMeant st) → q ≡ flatStep o
   unfolding flatStep
-  step-end f h g = g ∙ ap (λ y. stepWith y (stateMeant st)) (h s (st .place)) ∙ ap (λ y. flatStep (stepMeant s st y)) (sym f) ∙ ap flatStep e
+  step-end f h g = g ∙ ap (λ y. stepWith y (stateMeant st)) (h s) ∙ ap (λ y. flatStep (stepMeant s st y)) (sym f) ∙ ap flatStep e
 
-  pub step-refused : (f : Refusal) → x ≡ StepRefused f → ((t : List ℕ) (k : ℕ) → j ≡ flatItem (readMeant t k (Refused f))) → q ≡ stepWith j (stateMeant st) → q ≡ flatStep o
+  pub step-refused : (f : Refusal) → x ≡ StepRefused f → ((t : List ℕ) → j ≡ flatItem (readMeant t (Refused f))) → q ≡ stepWith j (stateMeant st) → q ≡ flatStep o
   unfolding flatStep
-  step-refused f g h z = z ∙ ap (λ y. stepWith y (stateMeant st)) (h s (st .place)) ∙ ap (λ y. flatStep (stepMeant s st y)) (sym g) ∙ ap flatStep e
+  step-refused f g h z = z ∙ ap (λ y. stepWith y (stateMeant st)) (h s) ∙ ap (λ y. flatStep (stepMeant s st y)) (sym g) ∙ ap flatStep e
 
 -- ---- a run
 

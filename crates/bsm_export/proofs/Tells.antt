@@ -7,15 +7,16 @@ use Prim.Native.Nat.{ℕ, suc, _+_, _≤_, _<_}
 use native.Mathlib.Omega.{arith}
 use lib.Dec.{leb, ltb}
 use lib.ListN.{length, drop}
-use borrow.Author.Tests.{leb-true}
 use Rattle.bsm_token.specs.Number.{ifElse, field, fields, sum}
-use Rattle.bsm_token.specs.Layout.{Class, unknown, file, header, trailer, plain as plainClass, text, bytes, groups, strings, rows, rowOf, behind}
-use Rattle.bsm_token.specs.Token.{Fault, notBody, pastEnd, badText, faultNumber, Token, Extent, tokenOf, extentOf, TokenAnswer, token, end as tokenEnd, refusal as tokenRefusal, tokenAt, Walk, tokens, refused as bad, walk}
+use Rattle.bsm_token.specs.Layout.{rowOf, behind}
+use Rattle.bsm_token.specs.Token.{Token, Extent, tokenOf, extentOf, TokenAnswer, token, end as tokenEnd, refusal as tokenRefusal, tokenAt, Walk, tokens, refused as bad, walk}
 use Rattle.bsm_token.specs.Flat.{flatToken}
 use Rattle.bsm_token.specs.declared.refusal.Refusal.{Refusal}
-use Rattle.bsm_token.proofs.Rows.{every-row}
+use Rattle.bsm_token.proofs.Faults.{body-fault}
+use Rattle.bsm_token.proofs.Answers.{widths-few, behind-few}
 use Rattle.bsm_token.proofs.Reader.{token-at, token-numbers}
 use Rattle.bsm_item.specs.Item.{fileItem, recordItem, Answer, item, end, short, refusal, itemAt}
+use Rattle.bsm_item.specs.Meaning.{located}
 use Rattle.bsm_item.specs.Reading.{State, Reading, answerAt, with, plain, stopOf}
 use Rattle.bsm_item.proofs.Longer.{refusal-numbers}
 use Rattle.bsm_item.proofs.Runs.{Stops, Reads, stops, goes, plain-reads}
@@ -27,7 +28,7 @@ use Rattle.bsm_bytes.specs.declared.answer.WriteAnswer.the-variants.{Refused}
 use Rattle.bsm_write.proofs.Refusals.{token-refusals, file-refusals, record-refusals}
 use Rattle.bsm_listing.specs.Line.{itemLine}
 use Rattle.bsm_listing.specs.Listing.{Cursor, first, atState, done}
-use Rattle.bsm_export.specs.Items.{flatFound, flatItem, stateAt, stoppedBy, flatOutcome}
+use Rattle.bsm_export.specs.Items.{flatFound, flatAnswer, flatItem, stateAt, stoppedBy, flatOutcome}
 use Rattle.bsm_export.specs.Written.{flatWritten, flatWalk}
 use Rattle.bsm_export.specs.Lines.{lineAnswer, ItemLined, cursorFrom, flatListing}
 use Rattle.bsm_export.specs.Told.{Tells, NumbersTell}
@@ -38,11 +39,11 @@ use Rattle.bsm_export.specs.declared.answer.BsmWritten.{BsmWritten}
 item-number : (s : List ℕ) (p e q n : ℕ) → itemAt s p ≡ refusal e q n → e ≢ 0
 item-number s p e q n f z = ⊎-elim (λ w. omega (arith, w .0)) (λ w. omega (arith, w .0)) (refusal-numbers s p e q n f .listed)
 
-items-tell : (s : List ℕ) (p : ℕ) → (flatItem (itemAt s p)) .number ≡ 0 → (flatItem (itemAt s p)) .kind ≢ 3
-unfolding flatItem flatFound
+items-tell : (s : List ℕ) (p : ℕ) → (flatItem (located p (itemAt s p))) .number ≡ 0 → (flatItem (located p (itemAt s p))) .kind ≢ 3
+unfolding flatAnswer flatFound
 items-tell s p = go (itemAt s p) refl
   where
-    go : (a : Answer) → itemAt s p ≡ a → (flatItem a) .number ≡ 0 → (flatItem a) .kind ≢ 3
+    go : (a : Answer) → itemAt s p ≡ a → (flatItem (located p a)) .number ≡ 0 → (flatItem (located p a)) .kind ≢ 3
     go (item (fileItem n vs name)) e z k = omega arith
     go (item (recordItem n h b c)) e z k = omega arith
     go end e z k = omega arith
@@ -58,23 +59,7 @@ tokens-tell s p = go (tokenAt s p) refl
     go tokenEnd e z k = omega arith
     go (tokenRefusal j q n) e z k = ⊎-elim (λ w. omega (arith, w .0)) (λ w. omega (arith, w .0)) (token-numbers s p j q n e .listed)
 
--- ten values and one count are all that a layout has
-widths-most : (n : ℕ) → length (rowOf n .widths) ≤ 10
-unfolding rows
-widths-most n = leb-true (length (rowOf n .widths)) 10 (every-row (λ r. leb (length (r .widths)) 10) n refl refl)
-
-counts-most : (c : Class) → length (behind c) ≤ 1
-unfolding behind
-counts-most unknown = omega arith
-counts-most file = omega arith
-counts-most header = omega arith
-counts-most trailer = omega arith
-counts-most plainClass = omega arith
-counts-most text = omega arith
-counts-most bytes = omega arith
-counts-most groups = omega arith
-counts-most strings = omega arith
-
+-- no field of a token is left out
 length-fields : (ws : List ℕ) (k : ℕ) (s : List ℕ) → length (fields ws k s) ≡ length ws
 unfolding fields
 length-fields [] k s = refl
@@ -89,20 +74,15 @@ fields-whole s p t x e =
     let w = token-at s p e in
     let v : length (t .values) ≡ length (r .widths) = ap (λ y. length (y .values)) (sym (w .2)) ∙ length-fields (r .widths) 1 u in
     let c : length (x .counts) ≡ length (behind (r .class)) = ap (λ y. length (y .counts)) (sym (w .3)) ∙ length-fields (behind (r .class)) (1 + sum (r .widths)) u in
-    (omega (arith, v, widths-most n), omega (arith, c, counts-most (r .class)))
-
-fault-above : (e : Fault) → faultNumber e ≢ 0
-fault-above notBody z = omega arith
-fault-above pastEnd z = omega arith
-fault-above badText z = omega arith
+    (omega (arith, v, widths-few n), omega (arith, c, behind-few (r .class)))
 
 bodies-tell : (s : List ℕ) → (flatWalk (walk s)) .number ≡ 0 → walk s ≡ tokens ((flatWalk (walk s)) .written)
 unfolding flatWalk flatWritten
-bodies-tell s = go (walk s)
+bodies-tell s = go (walk s) refl
   where
-    go : (w : Walk) → (flatWalk w) .number ≡ 0 → w ≡ tokens ((flatWalk w) .written)
-    go (tokens n) z = refl
-    go (bad e p) z = absurd (fault-above e z)
+    go : (w : Walk) → walk s ≡ w → (flatWalk w) .number ≡ 0 → w ≡ tokens ((flatWalk w) .written)
+    go (tokens n) e z = refl
+    go (bad f) e z = absurd (omega (arith, body-fault s e .least))
 
 -- a run stops at the answer that stands at its last state, which is no item
 stop-answer : {s : List ℕ} {st : State} {r : Reading} → Reads s st r → (answerAt s (r .state) ≡ r .answer) × Stops (r .answer)
@@ -198,7 +178,7 @@ numbers-tell =
       ofFiles = λ values name. tells (fileDraft values name) (λ d d′ f w. numbers-above (9 ∷ 8 ∷ 10 ∷ []) f (omega arith, (omega arith, (omega arith, tt))) (file-refusals values name d d′ f w));
       ofRecords = λ h body.
           tells (recordDraft h body)
-          (λ d d′ f w. ⊎-elim (numbers-above (4 ∷ 11 ∷ 9 ∷ 10 ∷ []) f (omega arith, (omega arith, (omega arith, (omega arith, tt))))) (λ b z. fault-above (b .why) (sym (b .number) ∙ z)) (record-refusals h body d d′ f w));
+          (λ d d′ f w. ⊎-elim (numbers-above (4 ∷ 11 ∷ 9 ∷ 10 ∷ []) f (omega arith, (omega arith, (omega arith, (omega arith, tt))))) (λ b z. omega (arith, body-fault body (b .found) .least)) (record-refusals h body d d′ f w));
       ofLines = lines-tell;
       ofItems = item-lines-tell;
       stages = stages-back;

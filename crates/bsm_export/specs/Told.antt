@@ -8,6 +8,7 @@ use lib.ListN.{length}
 use Rattle.bsm_token.specs.Token.{Token, Extent, token, tokens, tokenAt, walk}
 use Rattle.bsm_token.specs.Flat.{flatToken}
 use Rattle.bsm_item.specs.Item.{Head, end, itemAt}
+use Rattle.bsm_item.specs.Meaning.{located}
 use Rattle.bsm_item.specs.Reading.{State, plain, stopOf}
 use Rattle.bsm_bytes.specs.Write.{Draft, code, wrote, answerIn}
 use Rattle.bsm_write.specs.Given.{Given, tokenDraft}
@@ -23,7 +24,7 @@ abbrev pub Tells : Draft → Type 0
 Tells p = (d d′ : List ℕ) (r : BsmWritten) → Exported p d d′ r → r .number ≡ 0 → answerIn (length d) p ≡ wrote (r .written)
 
 pub record NumbersTell : Type 0 where
-  pub items : (s : List ℕ) (p : ℕ) → (flatItem (itemAt s p)) .number ≡ 0 → (flatItem (itemAt s p)) .kind ≢ 3
+  pub items : (s : List ℕ) (p : ℕ) → (flatItem (located p (itemAt s p))) .number ≡ 0 → (flatItem (located p (itemAt s p))) .kind ≢ 3
   pub bodyTokens : (s : List ℕ) (p : ℕ) → (flatToken (tokenAt s p)) .number ≡ 0 → (flatToken (tokenAt s p)) .kind ≢ 3
   pub bodyFields : (s : List ℕ) (p : ℕ) (t : Token) (x : Extent) → tokenAt s p ≡ token t x → (length (t .values) ≤ 10) × (length (x .counts) ≤ 1)
   pub bodies : (s : List ℕ) → (flatWalk (walk s)) .number ≡ 0 → walk s ≡ tokens ((flatWalk (walk s)) .written)

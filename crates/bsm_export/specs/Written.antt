@@ -3,7 +3,7 @@ use Prim.Native.Nat.{ℕ}
 use mathlib.Core.Path.{_≡_}
 use mathlib.Core.List.{List}
 use lib.ListN.{length}
-use Rattle.bsm_token.specs.Token.{Walk, tokens, refused as bad, faultNumber}
+use Rattle.bsm_token.specs.Token.{Walk, tokens, refused as bad}
 use Rattle.bsm_bytes.specs.Write.{Draft, Reply, wrote, denied, answerIn, leftIn}
 use Rattle.bsm_export.specs.declared.answer.BsmWritten.{BsmWritten}
 
@@ -19,4 +19,4 @@ pub record Exported (p : Draft) (d d′ : List ℕ) (r : BsmWritten) : Type 0 wh
 -- the tokens of a body, counted, or the first refusal
 unfoldable pub flatWalk : Walk → BsmWritten
 flatWalk (tokens n) = flatWritten (wrote n)
-flatWalk (bad e p) = flatWritten (denied (faultNumber e) p 0)
+flatWalk (bad e) = flatWritten (denied (e .number) (e .place) 0)

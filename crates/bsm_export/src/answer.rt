@@ -25,7 +25,7 @@ pub(crate) fn no_refusal() -> Refusal
     }
 }
 
-pub(crate) fn told(written: usize, f: Refusal) -> BsmWritten
+pub(crate) fn answer_of(written: usize, f: Refusal) -> BsmWritten
     ensures { λ r. ⌜ r ≡ record { written = written; number = f .number; place = f .place; need = f .need } ⌝ }
 {
     BsmWritten {
@@ -41,7 +41,7 @@ pub(crate) fn flat(a: WriteAnswer) -> BsmWritten
     ensures { λ r. ⌜ r ≡ flatWritten (answerMeant a) ⌝ }
 {
     match a {
-        WriteAnswer::Wrote(n) => told(n, no_refusal()),
-        WriteAnswer::Refused(f) => told(0, f),
+        WriteAnswer::Wrote(n) => answer_of(n, no_refusal()),
+        WriteAnswer::Refused(f) => answer_of(0, f),
     }
 }

@@ -1,10 +1,10 @@
 // The item at a place of a trail, and where its body or its name stands.
 ghost use mathlib.Core.Path.{_≡_};
 ghost use mathlib.Core.List.{List, [], _∷_};
-ghost use Prim.Native.Nat.{ℕ, _+_};
-ghost use Rattle.bsm_item.specs.Item.{itemAt, partOf, partStart};
-ghost use Rattle.bsm_item.specs.Meaning.{itemMeant, readMeant};
-ghost use Rattle.bsm_export.specs.Items.{foundItem, noItem, flatFound, flatItem, FoundAt, Stands, bodyOf, bodyStart, nameOf, nameStart};
+ghost use Prim.Native.Nat.{ℕ};
+ghost use Rattle.bsm_item.specs.Item.{itemAt};
+ghost use Rattle.bsm_item.specs.Meaning.{itemMeant, partMeant, located, readMeant};
+ghost use Rattle.bsm_export.specs.Items.{foundItem, noItem, flatFound, flatItem, PartTold, bodyOf, bodyStart, nameOf, nameStart};
 use crate::answer::no_refusal;
 use bsm_item::item::Header;
 use bsm_item::item::Item;
@@ -40,7 +40,7 @@ pub struct BsmPart {
 
 // An item of a kind. A file token has no header but its times.
 fn found(kind: u64, size: usize, h: Header, tokens: usize, start: usize, length: usize) -> BsmItem
-    ensures { λ r. ⌜ r ≡ foundItem kind size (h .number) (h .version ∷ h .event ∷ h .modifier ∷ h .seconds ∷ h .nanoseconds ∷ []) tokens ⌝ }
+    ensures { λ r. ⌜ r ≡ foundItem kind size (h .number) (h .version ∷ h .event ∷ h .modifier ∷ h .seconds ∷ h .nanoseconds ∷ []) tokens (record { start = start; length = length }) ⌝ }
 {
     BsmItem {
         kind: kind,
@@ -84,7 +84,7 @@ fn no_item(kind: u64, f: Refusal) -> BsmItem
 
 // An item, whatever trail it was read from.
 pub(crate) fn found_item(item: Item) -> BsmItem
-    ensures { λ r. ⌜ ((s : List ℕ) (p : ℕ) → r ≡ flatFound (itemMeant s p item)) ⌝ }
+    ensures { λ r. ⌜ ((s : List ℕ) → r ≡ flatFound (itemMeant s item) (partMeant item)) ⌝ }
 {
     match item {
         Item::File {
@@ -118,9 +118,9 @@ pub(crate) fn found_item(item: Item) -> BsmItem
     }
 }
 
-// An answer at a place, whatever the trail.
+// An answer, whatever the trail.
 pub(crate) fn item_numbers(r: ItemRead) -> BsmItem
-    ensures { λ q. ⌜ ((s : List ℕ) (p : ℕ) → q ≡ flatItem (readMeant s p r)) ⌝ }
+    ensures { λ q. ⌜ ((s : List ℕ) → q ≡ flatItem (readMeant s r)) ⌝ }
 {
     match r {
         ItemRead::Found(item) => found_item(item),
@@ -132,7 +132,7 @@ pub(crate) fn item_numbers(r: ItemRead) -> BsmItem
 // The answer at a place of a trail.
 #[no_mangle]
 pub extern "C" fn bsm_item_at(trail: &[u8], place: usize) -> BsmItem
-    ensures { λ r. ⌜ r ≡ flatItem (itemAt (now (trail .entry)) place) ⌝ }
+    ensures { λ r. ⌜ r ≡ flatItem (located place (itemAt (now (trail .entry)) place)) ⌝ }
 {
     item_numbers(item_at(trail, place))
 }
@@ -150,7 +150,7 @@ fn part(start: usize, n: usize) -> BsmPart
 // Where the body of the record at a place stands.
 #[no_mangle]
 pub extern "C" fn bsm_body_at(trail: &[u8], place: usize) -> BsmPart
-    ensures { λ r. ⌜ Stands (now (trail .entry)) (bodyOf (itemAt (now (trail .entry)) place)) (bodyStart place (itemAt (now (trail .entry)) place)) r ⌝ }
+    ensures { λ r. ⌜ PartTold (now (trail .entry)) (bodyOf (itemAt (now (trail .entry)) place)) (bodyStart place (itemAt (now (trail .entry)) place)) r ⌝ }
 {
     match item_at(trail, place) {
         ItemRead::Found(item) => match item {
@@ -177,7 +177,7 @@ pub extern "C" fn bsm_body_at(trail: &[u8], place: usize) -> BsmPart
 // Where the name of the file token at a place stands, without its zero byte.
 #[no_mangle]
 pub extern "C" fn bsm_name_at(trail: &[u8], place: usize) -> BsmPart
-    ensures { λ r. ⌜ Stands (now (trail .entry)) (nameOf (itemAt (now (trail .entry)) place)) (nameStart place (itemAt (now (trail .entry)) place)) r ⌝ }
+    ensures { λ r. ⌜ PartTold (now (trail .entry)) (nameOf (itemAt (now (trail .entry)) place)) (nameStart place (itemAt (now (trail .entry)) place)) r ⌝ }
 {
     match item_at(trail, place) {
         ItemRead::Found(item) => match item {

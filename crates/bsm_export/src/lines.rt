@@ -11,9 +11,9 @@ ghost use Rattle.bsm_export.specs.Items.{stateAt};
 ghost use Rattle.bsm_export.specs.Written.{Exported};
 ghost use Rattle.bsm_export.specs.Lines.{ItemLined, lastDraft, cursorFrom, flatListing, PartListed};
 use crate::answer::BsmWritten;
+use crate::answer::answer_of;
 use crate::answer::flat;
 use crate::answer::no_refusal;
-use crate::answer::told;
 use bsm_item::item::ItemRead;
 use bsm_item::read::item_at;
 use bsm_item::state::State;
@@ -50,8 +50,8 @@ pub extern "C" fn bsm_item_line(dst: &mut [u8], trail: &[u8], place: usize) -> B
 {
     match item_at(trail, place) {
         ItemRead::Found(item) => flat(item_line(dst, place, item)),
-        ItemRead::End => told(0, no_refusal()),
-        ItemRead::Refused(f) => told(0, f),
+        ItemRead::End => answer_of(0, no_refusal()),
+        ItemRead::Refused(f) => answer_of(0, f),
     }
 }
 

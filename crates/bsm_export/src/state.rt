@@ -1,7 +1,7 @@
 // One step from a reading state, and the run from it.
 ghost use mathlib.Core.Path.{_≡_};
-ghost use Rattle.bsm_item.specs.Reading.{stepOf, plain, stopOf};
-ghost use Rattle.bsm_item.specs.Meaning.{stateMeant};
+ghost use Rattle.bsm_item.specs.Reading.{plain, stopOf};
+ghost use Rattle.bsm_item.specs.Meaning.{stateMeant, stepAt};
 ghost use Rattle.bsm_export.specs.Items.{stateAt, stepWith, outcomeWith, flatStep, flatOutcome};
 use crate::answer::no_refusal;
 use crate::item::BsmItem;
@@ -59,7 +59,7 @@ fn outcome(last: State, f: Refusal) -> BsmOutcome
 // The answer at a state of a trail, and the state after it.
 #[no_mangle]
 pub extern "C" fn bsm_next(trail: &[u8], place: usize, records: usize, files: usize) -> BsmStep
-    ensures { λ r. ⌜ r ≡ flatStep (stepOf (now (trail .entry)) (stateAt place records files)) ⌝ }
+    ensures { λ r. ⌜ r ≡ flatStep (stepAt (now (trail .entry)) (stateAt place records files)) ⌝ }
 {
     let state = State {
         place: place,

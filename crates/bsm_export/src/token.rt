@@ -1,13 +1,12 @@
 // The token at a place of a body, where its text stands, and the tokens of a body.
 ghost use mathlib.Core.Path.{_≡_};
-ghost use Rattle.bsm_token.specs.Token.{hasString, stringOf, tokenAt, walk};
+ghost use Rattle.bsm_token.specs.Token.{stringOf, stringStart, tokenAt, walk};
 ghost use Rattle.bsm_token.specs.Flat.{flatToken};
-ghost use Rattle.bsm_export.specs.Items.{Stands};
-ghost use Rattle.bsm_export.specs.Tokens.{stringStart};
+ghost use Rattle.bsm_export.specs.Items.{PartTold};
 ghost use Rattle.bsm_export.specs.Written.{flatWalk};
 use crate::answer::BsmWritten;
+use crate::answer::answer_of;
 use crate::answer::no_refusal;
-use crate::answer::told;
 use crate::item::BsmPart;
 use bsm_token::body::BodyRead;
 use bsm_token::body::walk_body;
@@ -27,7 +26,7 @@ pub extern "C" fn bsm_token_at(body: &[u8], place: usize) -> FlatToken
 // one caller and is compiled into it.
 #[no_mangle]
 pub extern "C" fn bsm_text_at(body: &[u8], place: usize) -> BsmPart
-    ensures { λ r. ⌜ Stands (now (body .entry)) (stringOf (tokenAt (now (body .entry)) place)) (stringStart (tokenAt (now (body .entry)) place)) r ⌝ }
+    ensures { λ r. ⌜ PartTold (now (body .entry)) (stringOf (tokenAt (now (body .entry)) place)) (stringStart (tokenAt (now (body .entry)) place)) r ⌝ }
 {
     let t = bsm_token_at(body, place);
     if has_string(t.token) {
@@ -49,7 +48,7 @@ pub extern "C" fn bsm_walk_body(body: &[u8]) -> BsmWritten
     ensures { λ r. ⌜ r ≡ flatWalk (walk (now (body .entry))) ⌝ }
 {
     match walk_body(body) {
-        BodyRead::Tokens(n) => told(n, no_refusal()),
-        BodyRead::Refused(f) => told(0, f),
+        BodyRead::Tokens(n) => answer_of(n, no_refusal()),
+        BodyRead::Refused(f) => answer_of(0, f),
     }
 }
