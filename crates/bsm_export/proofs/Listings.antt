@@ -30,28 +30,29 @@ use Rattle.bsm_export.proofs.Answers.{numbers, exported}
 
 -- ---- one line
 
-module _ (s : List ℕ) (p : ℕ) (x : ItemRead) (e : readMeant s x ≡ located p (itemAt s p)) {r : BsmWritten} where
+module _ (s : List ℕ) (p : ℕ) (x : ItemRead) (e : readMeant s x ≡ located p (itemAt s p)) where
   found : {y : ItemRead} → x ≡ y → itemAt s p ≡ readMeant s y .answer
   found f = sym (ap (λ y. y .answer) e) ∙ ap (λ y. readMeant s y .answer) f
 
-  lined : {d d′ : List ℕ} {a : Answer} → itemAt s p ≡ a → r ≡ flatWritten (lineAnswer (length d) p a) → d′ ≡ lineLeft d p a → ItemLined s p d d′ r
-  lined f g h = record { answer = rw f g; left = rw f h }
+  module _ {r : BsmWritten} where
+    lined : {d d′ : List ℕ} {a : Answer} → itemAt s p ≡ a → r ≡ flatWritten (lineAnswer (length d) p a) → d′ ≡ lineLeft d p a → ItemLined s p d d′ r
+    lined f g h = record { answer = rw f g; left = rw f h }
 
-  pub line-found : (i : Found) {d d′ : List ℕ} {a : WriteAnswer} → x ≡ FoundItem i → ((t : List ℕ) → Written (code (itemLine p (itemMeant t i))) d d′ a) → r ≡ flatWritten (answerMeant a)
-      → ItemLined s p d d′ r
-  unfolding lineAnswer lineLeft
-  line-found i f w g = lined (found f) (exported (w s) g .answer) (exported (w s) g .left)
+    pub line-found : (i : Found) {d d′ : List ℕ} {a : WriteAnswer} → x ≡ FoundItem i → ((t : List ℕ) → Written (code (itemLine p (itemMeant t i))) d d′ a) → r ≡ flatWritten (answerMeant a)
+        → ItemLined s p d d′ r
+    unfolding lineAnswer lineLeft
+    line-found i f w g = lined (found f) (exported (w s) g .answer) (exported (w s) g .left)
 
-  pub line-end : (d : List ℕ) {f : Refusal} → x ≡ End → f ≡ zeros → r ≡ numbers 0 f → ItemLined s p d d r
-  unfolding lineAnswer lineLeft flatWritten
-  line-end d f z g = lined (found f) (g ∙ ap (numbers 0) z) refl
+    pub line-end : (d : List ℕ) {f : Refusal} → x ≡ End → f ≡ zeros → r ≡ numbers 0 f → ItemLined s p d d r
+    unfolding lineAnswer lineLeft flatWritten
+    line-end d f z g = lined (found f) (g ∙ ap (numbers 0) z) refl
 
-  pub line-refused : (d : List ℕ) (f : Refusal) → x ≡ Refused f → r ≡ numbers 0 f → ItemLined s p d d r
-  unfolding lineAnswer lineLeft flatWritten
-  line-refused d f g h =
-      lined (found g)
-      (h ∙ by-numbers (λ a. flatWritten (lineAnswer (length d) p a)) (λ k q n. flatWritten (denied k q n)) (λ q n. refl) (λ k q n. refl) f)
-      (by-numbers (lineLeft d p) (λ k q n. d) (λ q n. refl) (λ k q n. refl) f)
+    pub line-refused : (d : List ℕ) (f : Refusal) → x ≡ Refused f → r ≡ numbers 0 f → ItemLined s p d d r
+    unfolding lineAnswer lineLeft flatWritten
+    line-refused d f g h =
+        lined (found g)
+        (h ∙ by-numbers (λ a. flatWritten (lineAnswer (length d) p a)) (λ k q n. flatWritten (denied k q n)) (λ q n. refl) (λ k q n. refl) f)
+        (by-numbers (lineLeft d p) (λ k q n. d) (λ q n. refl) (λ k q n. refl) f)
 
 pub last-lined : (x : Run) {o : Stop} {d d′ : List ℕ} {a : WriteAnswer} {r : BsmWritten} → runMeant x ≡ o → Written (code (lastLine (stateMeant (x .state)) (endingMeant (x .ending)))) d d′ a
     → r ≡ flatWritten (answerMeant a) → Exported (lastDraft o) d d′ r
