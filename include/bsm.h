@@ -40,6 +40,8 @@ typedef struct {
     uint64_t seconds;   /* file and record */
     uint64_t fraction;  /* file: microseconds; record: nanoseconds */
     uint64_t tokens;    /* record: number of body tokens */
+    uint64_t start;     /* where the body of a record, or the name of a file token, starts in the trail */
+    uint64_t length;    /* and how many bytes it has, a name without its zero byte */
     uint64_t number;    /* refused: number, place, need */
     uint64_t place;
     uint64_t need;

@@ -33,15 +33,6 @@ impl HeaderKind {
             _ => unfit("header", number),
         }
     }
-
-    /// The header's size in bytes.
-    #[inline]
-    const fn size(self) -> usize {
-        match self {
-            HeaderKind::Header32 => 19,
-            HeaderKind::Header64 => 27,
-        }
-    }
 }
 
 /// A record's header, as read and as given to
@@ -140,7 +131,7 @@ pub fn item_at(trail: &[u8], place: usize) -> Result<Option<Item<'_>>, Refusal> 
     // SAFETY: the pointer and the length are those of a lent slice, which
     // stays as it is during the call.
     let answer = unsafe { sys::bsm_item_at(trail.as_ptr(), trail.len(), place) };
-    found(trail, place, &answer)
+    found(trail, &answer)
 }
 
 /// The body of the record at a place, if a record stands there.
@@ -163,50 +154,38 @@ pub fn name_at(trail: &[u8], place: usize) -> Option<&[u8]> {
     told_part(trail, answer)
 }
 
-/// The answer at `place` with its parts of the trail.
+/// The answer with the part of the trail that it names.
 #[inline]
 pub(crate) fn found<'a>(
     trail: &'a [u8],
-    place: usize,
     answer: &sys::bsm_item,
 ) -> Result<Option<Item<'a>>, Refusal> {
     let size = answer.size as usize;
+    let held = part(trail, answer.start as usize, answer.length as usize);
     match answer.kind {
         sys::BSM_END => Ok(None),
         sys::BSM_FILE => Ok(Some(Item::File {
             size,
             seconds: answer.seconds as u32,
             microseconds: answer.fraction as u32,
-            name: inner(trail, place, size, 11, 1),
+            name: held,
         })),
-        sys::BSM_RECORD => {
-            let kind = HeaderKind::of(answer.header);
-            Ok(Some(Item::Record {
-                size,
-                header: Header {
-                    kind,
-                    version: answer.version as u16,
-                    event: answer.event as u16,
-                    modifier: answer.modifier as u16,
-                    seconds: answer.seconds,
-                    nanoseconds: answer.fraction,
-                },
-                body: inner(trail, place, size, kind.size(), 7),
-                tokens: answer.tokens as usize,
-            }))
-        }
+        sys::BSM_RECORD => Ok(Some(Item::Record {
+            size,
+            header: Header {
+                kind: HeaderKind::of(answer.header),
+                version: answer.version as u16,
+                event: answer.event as u16,
+                modifier: answer.modifier as u16,
+                seconds: answer.seconds,
+                nanoseconds: answer.fraction,
+            },
+            body: held,
+            tokens: answer.tokens as usize,
+        })),
         sys::BSM_REFUSED => Err(Refusal::of(answer.number, answer.place, answer.need)),
         _ => unfit("item kind", answer.kind),
     }
-}
-
-/// What an item of `size` bytes holds between its first `before` and its
-/// last `behind` bytes. An item stands in its trail, so the part is there.
-#[inline]
-fn inner(trail: &[u8], place: usize, size: usize, before: usize, behind: usize) -> &[u8] {
-    part(trail, place, size)
-        .get(before..size.saturating_sub(behind))
-        .unwrap_or_default()
 }
 
 /// The part of `length` bytes from `start` on, which the library names only

@@ -65,7 +65,7 @@ pub fn next(trail: &[u8], state: State) -> (Step<'_>, State) {
     } = state;
     // SAFETY: the pointer and the length are those of a lent slice.
     let told = unsafe { sys::bsm_next(trail.as_ptr(), trail.len(), place, records, files) };
-    let step = match found(trail, place, &told.item) {
+    let step = match found(trail, &told.item) {
         Ok(Some(item)) => Step::Item { place, item },
         Ok(None) => Step::End,
         Err(Refusal {

@@ -31,6 +31,8 @@ pub struct bsm_item {
     pub seconds: u64,
     pub fraction: u64,
     pub tokens: u64,
+    pub start: u64,
+    pub length: u64,
     pub number: u64,
     pub place: u64,
     pub need: u64,

@@ -77,7 +77,7 @@ mod tests {
                 header,
                 ..Default::default()
             };
-            stops("header", header, || found(&[0; 60], 0, &told));
+            stops("header", header, || found(&[0; 60], &told));
         }
     }
 
@@ -88,15 +88,15 @@ mod tests {
             number,
             ..Default::default()
         };
-        assert_eq!(found(&[], 0, &told(sys::BSM_END, 0)), Ok(None));
-        let file = found(&[0; 60], 0, &told(sys::BSM_FILE, 0));
+        assert_eq!(found(&[], &told(sys::BSM_END, 0)), Ok(None));
+        let file = found(&[0; 60], &told(sys::BSM_FILE, 0));
         assert!(matches!(file, Ok(Some(Item::File { .. }))));
-        let refused = found(&[], 0, &told(sys::BSM_REFUSED, 3)).unwrap_err();
+        let refused = found(&[], &told(sys::BSM_REFUSED, 3)).unwrap_err();
         assert_eq!(refused.reason, Reason::NotAnItem);
         for kind in [4, 5].into_iter().chain(NEVER) {
-            stops("item kind", kind, || found(&[0; 60], 0, &told(kind, 3)));
+            stops("item kind", kind, || found(&[0; 60], &told(kind, 3)));
         }
-        stops("refusal", 0, || found(&[], 0, &told(sys::BSM_REFUSED, 0)));
+        stops("refusal", 0, || found(&[], &told(sys::BSM_REFUSED, 0)));
     }
 
     #[test]

@@ -5,7 +5,12 @@ use compare::*;
 use generator::*;
 use reference::{Answer, Item, Party, Refusal, State, Token, TokenAnswer};
 
-fn raw_item(answer: Answer<'_>) -> bsm_item {
+/// Where a part stands in its trail.
+fn start_in(trail: &[u8], part: &[u8]) -> u64 {
+    (part.as_ptr() as usize - trail.as_ptr() as usize) as u64
+}
+
+fn raw_item(trail: &[u8], answer: Answer<'_>) -> bsm_item {
     match answer {
         Answer::End => bsm_item {
             kind: BSM_END,
@@ -15,19 +20,21 @@ fn raw_item(answer: Answer<'_>) -> bsm_item {
             size,
             seconds,
             microseconds,
-            ..
+            name,
         }) => bsm_item {
             kind: BSM_FILE,
             size: size as u64,
             seconds: seconds.into(),
             fraction: microseconds.into(),
+            start: start_in(trail, name),
+            length: name.len() as u64,
             ..bsm_item::default()
         },
         Answer::Item(Item::Record {
             size,
             header,
             tokens,
-            ..
+            body,
         }) => bsm_item {
             kind: BSM_RECORD,
             size: size as u64,
@@ -38,6 +45,8 @@ fn raw_item(answer: Answer<'_>) -> bsm_item {
             seconds: header.seconds,
             fraction: header.nanoseconds,
             tokens: tokens as u64,
+            start: start_in(trail, body),
+            length: body.len() as u64,
             ..bsm_item::default()
         },
         Answer::Refused(refusal) => bsm_item {
@@ -67,7 +76,7 @@ fn raw_step(trail: &[u8], state: State) -> bsm_step {
         _ => (0, 0, 0),
     };
     bsm_step {
-        item: raw_item(answer),
+        item: raw_item(trail, answer),
         place: (state.place + size) as u64,
         records: (state.records + record) as u64,
         files: (state.files + file) as u64,
@@ -222,7 +231,7 @@ fn items_field_by_field() {
         // SAFETY: the pointer and the length are those of `trail`.
         unsafe {
             let found = bsm_item_at(bytes, length, place);
-            assert_eq!(found, raw_item(answer));
+            assert_eq!(found, raw_item(&trail, answer));
             let found = bsm_body_at(bytes, length, place);
             assert_eq!(found, raw_part(&trail, body));
             let found = bsm_name_at(bytes, length, place);
