@@ -160,32 +160,45 @@ pub(crate) fn found<'a>(
     trail: &'a [u8],
     answer: &sys::bsm_item,
 ) -> Result<Option<Item<'a>>, Refusal> {
-    let size = answer.size as usize;
-    let held = part(trail, answer.start as usize, answer.length as usize);
+    if answer.kind != sys::BSM_RECORD {
+        return no_record(trail, answer);
+    }
+    Ok(Some(Item::Record {
+        size: answer.size as usize,
+        header: Header {
+            kind: HeaderKind::of(answer.header),
+            version: answer.version as u16,
+            event: answer.event as u16,
+            modifier: answer.modifier as u16,
+            seconds: answer.seconds,
+            nanoseconds: answer.fraction,
+        },
+        body: held(trail, answer),
+        tokens: answer.tokens as usize,
+    }))
+}
+
+/// The seldom answers. Out of the way, they leave the fields of a record in
+/// registers.
+#[inline(never)]
+fn no_record<'a>(trail: &'a [u8], answer: &sys::bsm_item) -> Result<Option<Item<'a>>, Refusal> {
     match answer.kind {
         sys::BSM_END => Ok(None),
         sys::BSM_FILE => Ok(Some(Item::File {
-            size,
+            size: answer.size as usize,
             seconds: answer.seconds as u32,
             microseconds: answer.fraction as u32,
-            name: held,
-        })),
-        sys::BSM_RECORD => Ok(Some(Item::Record {
-            size,
-            header: Header {
-                kind: HeaderKind::of(answer.header),
-                version: answer.version as u16,
-                event: answer.event as u16,
-                modifier: answer.modifier as u16,
-                seconds: answer.seconds,
-                nanoseconds: answer.fraction,
-            },
-            body: held,
-            tokens: answer.tokens as usize,
+            name: held(trail, answer),
         })),
         sys::BSM_REFUSED => Err(Refusal::of(answer.number, answer.place, answer.need)),
         _ => unfit("item kind", answer.kind),
     }
+}
+
+/// The part that an item names: its name or its body.
+#[inline]
+fn held<'a>(trail: &'a [u8], answer: &sys::bsm_item) -> &'a [u8] {
+    part(trail, answer.start as usize, answer.length as usize)
 }
 
 /// The part of `length` bytes from `start` on, which the library names only
