@@ -1,4 +1,5 @@
-// The cases of paper 01, each with what the item reader answers; the last one is also read whole by a run.
+// The cases of paper 01, each with what the item reader answers, and what a reader does at that place; the last one is also read
+// whole by a run. Case "path" has a body whose first token is a path.
 use bsm_item::item::Item;
 use bsm_item::item::ItemRead;
 use bsm_item::read::body_of;
@@ -6,7 +7,11 @@ use bsm_item::read::item_at;
 use bsm_item::read::name_of;
 use bsm_item::state::Ending;
 use bsm_item::state::State;
+use bsm_reader::past::left_past;
+use bsm_reader::past::place_past;
+use bsm_reader::reader::read_at;
 use bsm_token::refusal::Refusal;
+use bsm_token::token::text_at;
 use libc::STDOUT_FILENO;
 
 fn say(words: &[u8]) {
@@ -25,7 +30,15 @@ fn refused(f: Refusal) {
     number(f.need as u64);
 }
 
-// An item: its size and fields, where its name or body stands, and the name or the size of the body.
+// A record's body: its size, and the string of its first token.
+fn body(b: &[u8]) {
+    number(b.len() as u64);
+    say(b"\t\"");
+    say(text_at(b, 0));
+    say(b"\"");
+}
+
+// An item: its size and fields, where its name or body stands, and the name or the body.
 fn found(trail: &[u8], item: Item) {
     match item {
         Item::File {
@@ -62,21 +75,31 @@ fn found(trail: &[u8], item: Item) {
             number(tokens as u64);
             number(start as u64);
             number(length as u64);
-            number(body_of(trail, item).len() as u64);
+            body(body_of(trail, item));
         }
     }
 }
 
-// One line: the case's name, and the answer at a place of its trail.
-fn case(name: &[u8], trail: &[u8], place: usize) {
-    say(name);
+fn answer(trail: &[u8], read: ItemRead) {
     say(b"\t");
-    match item_at(trail, place) {
+    match read {
         ItemRead::Found(item) => found(trail, item),
         ItemRead::End => say(b"end"),
         ItemRead::Refused(f) => refused(f),
     }
     say(b"\n");
+}
+
+// Two lines: the case's name and the answer at a place of its trail; and for a reader there, the place past the item, how many
+// bytes are left from it on, and the reader's answer.
+fn case(name: &[u8], trail: &[u8], place: usize) {
+    say(name);
+    answer(trail, item_at(trail, place));
+    say(name);
+    say(b"\treader");
+    number(place_past(trail, place) as u64);
+    number(left_past(trail, place) as u64);
+    answer(trail, read_at(trail, place));
 }
 
 // One line: the case's name, and what a run from the fresh state hands back.
@@ -141,6 +164,11 @@ fn main() {
     case(
         b"16",
         b"\x14\0\0\0\x24\0\x0b\0\x48\0\0\0\0\0\x01\0\0\0\x02\x29\0\x07\x13\xb1\x05\0\0\0\x1a\x13\xb1\x05\0\0\0\x24",
+        0,
+    );
+    case(
+        b"path",
+        b"\x14\0\0\0\x28\0\x0b\0\x48\0\0\0\0\0\x01\0\0\0\x02\x23\0\x05/etc\0\x27\0\0\0\0\0\x13\xb1\x05\0\0\0\x28",
         0,
     );
     let last =
