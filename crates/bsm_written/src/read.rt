@@ -5,9 +5,9 @@ use crate::print::say;
 use bsm_bytes::answer::WriteAnswer;
 use bsm_item::item::Item;
 use bsm_item::item::ItemRead;
-use bsm_item::item::body_of;
-use bsm_item::item::item_at;
-use bsm_item::item::name_of;
+use bsm_item::read::body_of;
+use bsm_item::read::item_at;
+use bsm_item::read::name_of;
 use bsm_token::kind::IpHeader;
 use bsm_token::kind::Party32;
 use bsm_token::kind::Party64;
@@ -123,22 +123,26 @@ pub(crate) fn token_back(body: &[u8], at: usize) {
     say(b"\n");
 }
 
-fn found(trail: &[u8], place: usize, item: Item) {
+fn found(trail: &[u8], item: Item) {
     match item {
         Item::File {
             size,
             seconds,
             microseconds,
+            start: _,
+            length: _,
         } => {
             number(size as u64);
             say(b":");
             two(seconds as u64, microseconds as u64);
-            hex(name_of(trail, place, item));
+            hex(name_of(trail, item));
         }
         Item::Record {
             size,
             header,
             tokens,
+            start: _,
+            length: _,
         } => {
             number(size as u64);
             say(b":");
@@ -149,7 +153,7 @@ fn found(trail: &[u8], place: usize, item: Item) {
             );
             two(header.seconds, header.nanoseconds);
             say(b", tokens");
-            two(tokens as u64, body_of(trail, place, item).len() as u64);
+            two(tokens as u64, body_of(trail, item).len() as u64);
         }
     }
 }
@@ -158,7 +162,7 @@ fn found(trail: &[u8], place: usize, item: Item) {
 pub(crate) fn item_back(trail: &[u8], place: usize) {
     say(b"  read");
     match item_at(trail, place) {
-        ItemRead::Found(item) => found(trail, place, item),
+        ItemRead::Found(item) => found(trail, item),
         ItemRead::End => say(b" end"),
         ItemRead::Refused(f) => refused(f),
     }
