@@ -160,24 +160,10 @@ pub(crate) fn found<'a>(
     trail: &'a [u8],
     answer: &sys::bsm_item,
 ) -> Result<Option<Item<'a>>, Refusal> {
-    match answer.kind {
-        sys::BSM_END => Ok(None),
-        sys::BSM_FILE => Ok(Some(Item::File {
-            size: answer.size as usize,
-            seconds: answer.seconds as u32,
-            microseconds: answer.fraction as u32,
-            name: held(trail, answer),
-        })),
-        sys::BSM_RECORD => Ok(Some(record(trail, answer))),
-        sys::BSM_REFUSED => Err(Refusal::of(answer.number, answer.place, answer.need)),
-        _ => unfit("item kind", answer.kind),
+    if answer.kind != sys::BSM_RECORD {
+        return no_record(trail, answer);
     }
-}
-
-/// The record that an answer is.
-#[inline]
-pub(crate) fn record<'a>(trail: &'a [u8], answer: &sys::bsm_item) -> Item<'a> {
-    Item::Record {
+    Ok(Some(Item::Record {
         size: answer.size as usize,
         header: Header {
             kind: HeaderKind::of(answer.header),
@@ -189,6 +175,23 @@ pub(crate) fn record<'a>(trail: &'a [u8], answer: &sys::bsm_item) -> Item<'a> {
         },
         body: held(trail, answer),
         tokens: answer.tokens as usize,
+    }))
+}
+
+/// The seldom answers. Out of the way, they leave the fields of a record in
+/// registers.
+#[inline(never)]
+fn no_record<'a>(trail: &'a [u8], answer: &sys::bsm_item) -> Result<Option<Item<'a>>, Refusal> {
+    match answer.kind {
+        sys::BSM_END => Ok(None),
+        sys::BSM_FILE => Ok(Some(Item::File {
+            size: answer.size as usize,
+            seconds: answer.seconds as u32,
+            microseconds: answer.fraction as u32,
+            name: held(trail, answer),
+        })),
+        sys::BSM_REFUSED => Err(Refusal::of(answer.number, answer.place, answer.need)),
+        _ => unfit("item kind", answer.kind),
     }
 }
 

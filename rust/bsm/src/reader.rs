@@ -1,9 +1,8 @@
 //! Reading the items of a trail one after the other, also while it grows.
 
-use crate::item::{found, record, Item};
-use crate::refusal::Refusal;
-use crate::state::{next, state_of, told_step, State, Step};
-use crate::sys;
+use crate::item::Item;
+use crate::refusal::{Reason, Refusal};
+use crate::state::{next, State, Step};
 use core::iter::FusedIterator;
 
 /// Reads a trail that may grow, and may be moved, between two steps: it
@@ -120,28 +119,20 @@ impl<'a> Iterator for Items<'a> {
         if self.refused {
             return None;
         }
-        let place = self.state.place;
-        let told = told_step(self.trail, self.state);
-        self.state = state_of(told.place, told.records, told.files);
-        // Most items are records: made here, none is copied.
-        if told.item.kind == sys::BSM_RECORD {
-            return Some(Ok((place, record(self.trail, &told.item))));
-        }
-        self.other(place, &told.item)
-    }
-}
-
-impl<'a> Items<'a> {
-    /// A file token, the end or a refusal.
-    #[inline(never)]
-    fn other(
-        &mut self,
-        place: usize,
-        answer: &sys::bsm_item,
-    ) -> Option<Result<(usize, Item<'a>), Refusal>> {
-        let answer = found(self.trail, answer).transpose()?;
-        self.refused = answer.is_err();
-        Some(answer.map(|item| (place, item)))
+        let (step, after) = next(self.trail, self.state);
+        self.state = after;
+        let refusal = match step {
+            Step::Item { place, item } => return Some(Ok((place, item))),
+            Step::End => return None,
+            Step::Short { place, need } => Refusal {
+                reason: Reason::Short,
+                place,
+                need,
+            },
+            Step::Refused(refusal) => refusal,
+        };
+        self.refused = true;
+        Some(Err(refusal))
     }
 }
 

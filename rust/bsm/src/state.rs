@@ -58,27 +58,14 @@ pub enum Step<'a> {
 /// item moves the state.
 #[inline]
 pub fn next(trail: &[u8], state: State) -> (Step<'_>, State) {
-    let told = told_step(trail, state);
-    let after = state_of(told.place, told.records, told.files);
-    (step_of(trail, state.place, &told.item), after)
-}
-
-/// The step from a state as the library tells it.
-#[inline]
-pub(crate) fn told_step(trail: &[u8], state: State) -> sys::bsm_step {
     let State {
         place,
         records,
         files,
     } = state;
     // SAFETY: the pointer and the length are those of a lent slice.
-    unsafe { sys::bsm_next(trail.as_ptr(), trail.len(), place, records, files) }
-}
-
-/// The answer at a place as a step.
-#[inline]
-pub(crate) fn step_of<'a>(trail: &'a [u8], place: usize, answer: &sys::bsm_item) -> Step<'a> {
-    match found(trail, answer) {
+    let told = unsafe { sys::bsm_next(trail.as_ptr(), trail.len(), place, records, files) };
+    let step = match found(trail, &told.item) {
         Ok(Some(item)) => Step::Item { place, item },
         Ok(None) => Step::End,
         Err(Refusal {
@@ -87,7 +74,8 @@ pub(crate) fn step_of<'a>(trail: &'a [u8], place: usize, answer: &sys::bsm_item)
             need,
         }) => Step::Short { place, need },
         Err(refusal) => Step::Refused(refusal),
-    }
+    };
+    (step, state_of(told.place, told.records, told.files))
 }
 
 /// How a run ended.
