@@ -14,7 +14,7 @@ use Rattle.bsm_token.specs.declared.refusal.Refusal.{Refusal}
 use Rattle.bsm_token.proofs.Reader.{token-at}
 use Rattle.bsm_token.proofs.Tokens.{size-some, tail-take, tail-length}
 use Rattle.bsm_item.specs.Item.{Answer, item, end, short, refusal, itemAt}
-use Rattle.bsm_item.specs.Meaning.{itemMeant, partMeant, refusalMeant, partAt, located, readMeant}
+use Rattle.bsm_item.specs.Meaning.{itemMeant, partMeant, refusalMeant, partFor, located, readMeant}
 use Rattle.bsm_item.specs.declared.item.Header.{Header}
 use Rattle.bsm_item.specs.declared.item.Item.{Item as Found}
 use Rattle.bsm_item.specs.declared.item.Item.the-variants.{File, Record}
@@ -37,8 +37,8 @@ module _ (s : List ℕ) (p : ℕ) (r : ItemRead) (e : readMeant s r ≡ located 
   answer f = sym (ap (λ y. y .answer) e) ∙ ap (λ y. readMeant s y .answer) f
 
   -- where the part of the item i stands
-  place-of : (i : Found) → r ≡ FoundItem i → partMeant i ≡ partAt p (item (itemMeant s i))
-  place-of i f = ap (λ y. readMeant s y .part) (sym f) ∙ ap (λ y. y .part) e ∙ ap (partAt p) (answer f)
+  place-of : (i : Found) → r ≡ FoundItem i → partMeant i ≡ partFor p (item (itemMeant s i))
+  place-of i f = ap (λ y. readMeant s y .part) (sym f) ∙ ap (λ y. y .part) e ∙ ap (partFor p) (answer f)
 
   -- a part, by its bytes and its start, for each answer
   module _ (bytes : Answer → List ℕ) (start : Answer → ℕ) {q : BsmPart} where
