@@ -160,28 +160,6 @@ pub(crate) fn found<'a>(
     trail: &'a [u8],
     answer: &sys::bsm_item,
 ) -> Result<Option<Item<'a>>, Refusal> {
-    if answer.kind != sys::BSM_RECORD {
-        return no_record(trail, answer);
-    }
-    Ok(Some(Item::Record {
-        size: answer.size as usize,
-        header: Header {
-            kind: HeaderKind::of(answer.header),
-            version: answer.version as u16,
-            event: answer.event as u16,
-            modifier: answer.modifier as u16,
-            seconds: answer.seconds,
-            nanoseconds: answer.fraction,
-        },
-        body: held(trail, answer),
-        tokens: answer.tokens as usize,
-    }))
-}
-
-/// The seldom answers. Out of the way, they leave the fields of a record in
-/// registers.
-#[inline(never)]
-fn no_record<'a>(trail: &'a [u8], answer: &sys::bsm_item) -> Result<Option<Item<'a>>, Refusal> {
     match answer.kind {
         sys::BSM_END => Ok(None),
         sys::BSM_FILE => Ok(Some(Item::File {
@@ -189,6 +167,19 @@ fn no_record<'a>(trail: &'a [u8], answer: &sys::bsm_item) -> Result<Option<Item<
             seconds: answer.seconds as u32,
             microseconds: answer.fraction as u32,
             name: held(trail, answer),
+        })),
+        sys::BSM_RECORD => Ok(Some(Item::Record {
+            size: answer.size as usize,
+            header: Header {
+                kind: HeaderKind::of(answer.header),
+                version: answer.version as u16,
+                event: answer.event as u16,
+                modifier: answer.modifier as u16,
+                seconds: answer.seconds,
+                nanoseconds: answer.fraction,
+            },
+            body: held(trail, answer),
+            tokens: answer.tokens as usize,
         })),
         sys::BSM_REFUSED => Err(Refusal::of(answer.number, answer.place, answer.need)),
         _ => unfit("item kind", answer.kind),

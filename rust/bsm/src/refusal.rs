@@ -45,6 +45,7 @@ impl Reason {
     }
 
     /// The reason for a number that the library gave.
+    #[inline]
     pub(crate) fn of(number: u64) -> Self {
         match number {
             1 => Reason::Short,
@@ -102,6 +103,7 @@ pub struct Refusal {
 
 impl Refusal {
     /// A refusal as the library told it.
+    #[inline]
     pub(crate) fn of(number: u64, place: u64, need: u64) -> Self {
         Refusal {
             reason: Reason::of(number),
