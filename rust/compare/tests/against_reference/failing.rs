@@ -80,6 +80,20 @@ fn until(what: &str, mut holds: impl FnMut() -> bool) {
     }
 }
 
+/// Starts it with this standard input and output.
+fn started(mut command: Command, stdin: Stdio, stdout: Stdio) -> Child {
+    command.stdin(stdin).stdout(stdout).stderr(Stdio::piped());
+    command.spawn().expect("it starts")
+}
+
+/// Starts it on a trail, with this standard output.
+fn into(command: Command, trail: &[u8], stdout: Stdio) -> Child {
+    let mut child = started(command, Stdio::piped(), stdout);
+    let mut stdin = child.stdin.take().expect("a pipe");
+    stdin.write_all(trail).expect("it is read");
+    child
+}
+
 /// Waits for the end of a process, whose piped output is read.
 fn ended(mut child: Child) -> Ended {
     let stdout = read_all(child.stdout.take());
@@ -125,17 +139,7 @@ fn failed(way: Way, ended: &Ended, report: &str) {
 #[test]
 fn nothing_fails() {
     for way in WAYS {
-        let mut child = way
-            .command()
-            .stdin(Stdio::piped())
-            .stdout(Stdio::piped())
-            .stderr(Stdio::piped())
-            .spawn()
-            .expect("it starts");
-        let mut stdin = child.stdin.take().expect("a pipe");
-        stdin.write_all(TRAIL).expect("it is read");
-        drop(stdin);
-        let ended = ended(child);
+        let ended = ended(into(way.command(), TRAIL, Stdio::piped()));
         assert_eq!((ended.status.code(), &ended.stderr[..]), (Some(0), ""));
         assert_eq!(ended.stdout, reference::program_output(TRAIL));
         assert!(ended.stdout.ends_with(b"\nE\t1\t1\n"));
@@ -147,14 +151,7 @@ fn first_read_fails() {
     for way in WAYS {
         // A directory can be opened, but not read.
         let directory = File::open("/").expect("the root can be opened");
-        let child = way
-            .command()
-            .stdin(Stdio::from(directory))
-            .stdout(Stdio::piped())
-            .stderr(Stdio::piped())
-            .spawn()
-            .expect("it starts");
-        let ended = ended(child);
+        let ended = ended(started(way.command(), directory.into(), Stdio::piped()));
         failed(way, &ended, "bsmlist: cannot read");
         assert_eq!(ended.stdout, b"");
     }
@@ -166,15 +163,9 @@ fn named_inputs_that_cannot_be_read() {
     let missing = concat!(env!("CARGO_MANIFEST_DIR"), "/no such trail");
     for way in WAYS {
         for name in [directory, missing] {
-            let child = way
-                .command()
-                .arg(name)
-                .stdin(Stdio::null())
-                .stdout(Stdio::piped())
-                .stderr(Stdio::piped())
-                .spawn()
-                .expect("it starts");
-            let ended = ended(child);
+            let mut command = way.command();
+            command.arg(name);
+            let ended = ended(started(command, Stdio::null(), Stdio::piped()));
             let report = match way {
                 Way::Program if name == missing => missing,
                 _ => "bsmlist: ",
@@ -216,13 +207,7 @@ fn on_reset_connection(way: Way, bytes: &[u8]) -> Ended {
     sender.write_all(bytes).expect("it is connected");
     until("bytes come", || unread(&reader) == bytes.len());
     let stdin = OwnedFd::from(reader.try_clone().expect("a second descriptor"));
-    let child = way
-        .command()
-        .stdin(Stdio::from(stdin))
-        .stdout(Stdio::piped())
-        .stderr(Stdio::piped())
-        .spawn()
-        .expect("it starts");
+    let child = started(way.command(), stdin.into(), Stdio::piped());
     until("the program reads", || unread(&reader) == 0);
     // An end that is closed with something unread resets its connection.
     reader.write_all(b"unread").expect("it is connected");
@@ -244,20 +229,6 @@ fn later_read_fails() {
     }
 }
 
-/// Runs it on a trail with this standard output.
-fn into(way: Way, trail: &[u8], stdout: Stdio) -> Child {
-    let mut child = way
-        .command()
-        .stdin(Stdio::piped())
-        .stdout(stdout)
-        .stderr(Stdio::piped())
-        .spawn()
-        .expect("it starts");
-    let mut stdin = child.stdin.take().expect("a pipe");
-    stdin.write_all(trail).expect("it is read");
-    child
-}
-
 /// A trail whose listing is longer than a pipe holds.
 fn long_trail() -> Vec<u8> {
     let trail = b"\x11\xff\xff\xff\xff\0\x0f\x42\x3f\0\x01\0".repeat(5_400);
@@ -272,7 +243,7 @@ fn writes_fail() {
         for trail in [TRAIL, &long_trail()] {
             let full = File::options().write(true).open("/dev/full");
             let full = full.expect("a device that is always full");
-            let ended = ended(into(way, trail, Stdio::from(full)));
+            let ended = ended(into(way.command(), trail, full.into()));
             failed(way, &ended, "bsmlist: cannot write");
         }
     }
@@ -283,7 +254,7 @@ fn pipe_is_closed() {
     let trail = long_trail();
     let listing = reference::program_output(&trail);
     for way in WAYS {
-        let mut child = into(way, &trail, Stdio::piped());
+        let mut child = into(way.command(), &trail, Stdio::piped());
         let mut pipe = child.stdout.take().expect("a pipe");
         let mut seen = [0; 1_000];
         pipe.read_exact(&mut seen).expect("it writes");
@@ -300,15 +271,7 @@ fn pipe_is_closed() {
 fn pipe_is_closed_with_its_signal() {
     use std::os::unix::process::ExitStatusExt;
     const SIGPIPE: i32 = 13;
-    let mut child = Command::new(program())
-        .stdin(Stdio::piped())
-        .stdout(Stdio::piped())
-        .stderr(Stdio::piped())
-        .spawn()
-        .expect("it starts");
-    let mut stdin = child.stdin.take().expect("a pipe");
-    stdin.write_all(&long_trail()).expect("it is read");
-    drop(stdin);
+    let mut child = into(Command::new(program()), &long_trail(), Stdio::piped());
     let mut pipe = child.stdout.take().expect("a pipe");
     pipe.read_exact(&mut [0; 1_000]).expect("it writes");
     drop(pipe);
