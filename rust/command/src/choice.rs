@@ -1,0 +1,122 @@
+//! Choosing items, by the options that list, print and follow share.
+
+use crate::args::Values;
+use crate::fields::time_of;
+use crate::reading::tokens_of;
+use crate::time::{Time, FORMS};
+use bsm::{Item, Party, Token};
+
+/// What must hold of an item so that it is shown: all of it.
+#[derive(Debug, Default)]
+pub struct Choice {
+    event: Option<u16>,
+    sessions: Vec<u32>,
+    users: Vec<u32>,
+    since: Option<Time>,
+    until: Option<Time>,
+}
+
+/// The lines on these options in the help of a subcommand.
+pub const HELP: &str = "\
+Choosing: an item is shown where all that is asked for holds.
+  --event N      records of event N
+  --session N    records with a subject or process token of session N
+  --user N       records with a subject or process token in which N is the audit,
+                 the effective or the real user
+  --since T      items written at T or later
+  --until T      items written before T
+N is decimal, or hexadecimal behind 0x. T is UTC: 2026-11-16T09:30:00, 2026-11-16,
+20261116093000 or @ and seconds since 1970. --session and --user may be repeated.
+A file token has a time, but no event, session or user.
+";
+
+impl Choice {
+    /// Takes an option if it is one of these.
+    pub fn take(&mut self, option: &str, values: &mut Values<'_>) -> Result<bool, String> {
+        match option {
+            "--event" => once(&mut self.event, option, number(option, &values.one()?)?)?,
+            "--session" => self.sessions.push(number(option, &values.one()?)?),
+            "--user" => self.users.push(number(option, &values.one()?)?),
+            "--since" => once(&mut self.since, option, time(option, &values.one()?)?)?,
+            "--until" => once(&mut self.until, option, time(option, &values.one()?)?)?,
+            _ => return Ok(false),
+        }
+        Ok(true)
+    }
+
+    /// Whether an item is chosen.
+    pub fn takes(&self, item: &Item<'_>) -> bool {
+        let time = time_of(item);
+        self.since.is_none_or(|since| since <= time)
+            && self.until.is_none_or(|until| time < until)
+            && self.takes_event(item)
+            && self.takes_parties(item)
+    }
+
+    fn takes_event(&self, item: &Item<'_>) -> bool {
+        match (self.event, item) {
+            (None, _) => true,
+            (Some(event), Item::Record { header, .. }) => header.event == event,
+            (Some(_), Item::File { .. }) => false,
+        }
+    }
+
+    /// Whether the item's parties have each session and each user asked for.
+    fn takes_parties(&self, item: &Item<'_>) -> bool {
+        if self.sessions.is_empty() && self.users.is_empty() {
+            return true;
+        }
+        let parties: Vec<Named> = tokens_of(item).filter_map(|token| named(&token)).collect();
+        let has_session = |&session| parties.iter().any(|party| party.session == session);
+        let has_user = |user| parties.iter().any(|party| party.users.contains(user));
+        self.sessions.iter().all(has_session) && self.users.iter().all(has_user)
+    }
+}
+
+/// The session and the users that a subject or process token names.
+struct Named {
+    session: u32,
+    users: [u32; 3],
+}
+
+fn named(token: &Token<'_>) -> Option<Named> {
+    match token {
+        Token::Subject32(party) | Token::Process32(party) => Some(named_in(party)),
+        Token::Subject64(party) | Token::Process64(party) => Some(named_in(party)),
+        _ => None,
+    }
+}
+
+fn named_in<P>(party: &Party<P>) -> Named {
+    Named {
+        session: party.session,
+        users: [party.audit, party.effective_user, party.real_user],
+    }
+}
+
+/// Sets what may be given only once: two would leave nothing to show.
+fn once<T>(slot: &mut Option<T>, option: &str, value: T) -> Result<(), String> {
+    match slot.replace(value) {
+        None => Ok(()),
+        Some(_) => Err(format!("{option} is given twice")),
+    }
+}
+
+/// A number that fits its field, decimal or hexadecimal behind `0x`.
+fn number<T: TryFrom<u64>>(option: &str, text: &str) -> Result<T, String> {
+    let (digits, radix) = match text.strip_prefix("0x") {
+        Some(digits) => (digits, 16),
+        None => (text, 10),
+    };
+    let digit = |character: char| character.is_digit(radix);
+    let read = match digits.chars().all(digit) {
+        true => u64::from_str_radix(digits, radix).ok(),
+        false => None,
+    };
+    read.and_then(|number| T::try_from(number).ok())
+        .ok_or_else(|| format!("{option} {text}: not such a number"))
+}
+
+fn time(option: &str, text: &str) -> Result<Time, String> {
+    Time::parse(text).ok_or_else(|| format!("{option} {text}: not a time; write {FORMS}"))
+}

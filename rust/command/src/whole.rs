@@ -1,0 +1,57 @@
+//! Showing files that are read whole, for list and print.
+
+use crate::args::{Files, Halt};
+use crate::form::Form;
+use crate::output::{output, say_unread, title, Output};
+use crate::reading::{say_stop, View};
+use crate::status::Status;
+use bsm::Reader;
+use std::ffi::OsStr;
+use std::fs;
+use std::io::{self, stdin, Read, Write};
+
+/// Shows each file, and answers the worst of their statuses. One that cannot
+/// be read is said and passed over.
+pub fn show(files: &Files, view: &View) -> Result<Status, Halt> {
+    let mut out = output()?;
+    let mut status = files.status;
+    let headed = files.names.len() > 1 && view.form != Form::Json;
+    let mut before = "";
+    for name in &files.names {
+        let trail = match read(name) {
+            Ok(trail) => trail,
+            Err(error) => {
+                say_unread(name, &error);
+                status = status.max(Status::Failed);
+                continue;
+            }
+        };
+        if headed {
+            writeln!(out, "{before}==> {} <==", title(name))?;
+            before = "\n";
+        }
+        status = status.max(show_one(&mut out, name, &trail, view)?);
+    }
+    Ok(status)
+}
+
+/// Shows one trail.
+fn show_one(out: &mut Output, name: &OsStr, trail: &[u8], view: &View) -> io::Result<Status> {
+    let mut reader = Reader::new();
+    view.form.write_first(out)?;
+    let stop = view.write_items(out, name, trail, &mut reader)?;
+    view.form.write_last(out, trail, reader.state())?;
+    // Before what is said of it on standard error.
+    out.flush()?;
+    Ok(say_stop(name, trail, stop))
+}
+
+/// The bytes of a file, or of standard input for `-`.
+fn read(name: &OsStr) -> io::Result<Vec<u8>> {
+    if name != "-" {
+        return fs::read(name);
+    }
+    let mut bytes = Vec::new();
+    stdin().lock().read_to_end(&mut bytes)?;
+    Ok(bytes)
+}
