@@ -4,16 +4,8 @@
  * Every function answers for any input: any bytes, any place, any state, any destination. A pointer must be aligned for its type
  * and point to as many readable (dst, out: writable) elements as the length behind it says; dst and out must not overlap another
  * buffer of the same call. Where that length is 0, nothing is read or written through the pointer, and it may be null. Nothing is
- * kept between calls. A refusal has the numbers of the build specification (paper 01):
- *
- *    1  short: `need` bytes must stand at the item's start     7  a token runs past its body's end
- *    2  place beyond the buffer, or totals above the place     8  bad text, or too long a file name
- *    3  first byte is no item's                                9  microseconds or nanoseconds out of range
- *    4  record length out of bounds                           10  destination too small
- *    5  no trailer with this length                           11  value too large for its field
- *    6  not a body token's number
- *
- * Where a `number` field is 0, nothing was refused. What is refused is not written, not even in part.
+ * kept between calls. A refusal has the numbers of the build specification (paper 01), named below. Where a `number` field is 0,
+ * nothing was refused. What is refused is not written, not even in part.
  */
 #ifndef BSM_H
 #define BSM_H
@@ -25,6 +17,49 @@
 extern "C" {
 #endif
 
+/* Refusals. */
+enum {
+    BSM_REFUSAL_SHORT = 1,            /* `need` bytes must stand from the item's start on */
+    BSM_REFUSAL_PLACE = 2,            /* place beyond the buffer, or totals above the place */
+    BSM_REFUSAL_NOT_AN_ITEM = 3,      /* the first byte is no item's */
+    BSM_REFUSAL_RECORD_LENGTH = 4,    /* a record's length is out of bounds */
+    BSM_REFUSAL_TRAILER = 5,          /* no trailer with the record's length */
+    BSM_REFUSAL_NOT_A_BODY_TOKEN = 6, /* not a body token's number */
+    BSM_REFUSAL_PAST_END = 7,         /* a token runs past its body's end */
+    BSM_REFUSAL_BAD_TEXT = 8,         /* a bad text, or too long a file name */
+    BSM_REFUSAL_TIME_RANGE = 9,       /* microseconds or nanoseconds out of range */
+    BSM_REFUSAL_NO_ROOM = 10,         /* the destination is too small */
+    BSM_REFUSAL_TOO_LARGE = 11        /* a value is too large for its field */
+};
+
+/* Token numbers. */
+enum {
+    BSM_ID_FILE = 0x11,
+    BSM_ID_TRAILER = 0x13,
+    BSM_ID_HEADER32 = 0x14,
+    BSM_ID_PATH = 0x23,
+    BSM_ID_SUBJECT32 = 0x24,
+    BSM_ID_PROCESS32 = 0x26,
+    BSM_ID_RETURN32 = 0x27,
+    BSM_ID_TEXT = 0x28,
+    BSM_ID_OPAQUE = 0x29,
+    BSM_ID_IN_ADDR = 0x2A,
+    BSM_ID_IP = 0x2B,
+    BSM_ID_IPORT = 0x2C,
+    BSM_ID_ARG32 = 0x2D,
+    BSM_ID_SEQ = 0x2F,
+    BSM_ID_IPC_PERM = 0x32,
+    BSM_ID_NEWGROUPS = 0x3B,
+    BSM_ID_EXEC_ARGS = 0x3C,
+    BSM_ID_EXEC_ENV = 0x3D,
+    BSM_ID_EXIT = 0x52,
+    BSM_ID_ARG64 = 0x71,
+    BSM_ID_RETURN64 = 0x72,
+    BSM_ID_HEADER64 = 0x74,
+    BSM_ID_SUBJECT64 = 0x75,
+    BSM_ID_PROCESS64 = 0x77
+};
+
 /* ---- reading items */
 
 enum { BSM_END = 0, BSM_FILE = 1, BSM_RECORD = 2, BSM_REFUSED = 3 };
@@ -33,7 +68,7 @@ enum { BSM_END = 0, BSM_FILE = 1, BSM_RECORD = 2, BSM_REFUSED = 3 };
 typedef struct {
     uint64_t kind;      /* BSM_END, BSM_FILE, BSM_RECORD or BSM_REFUSED */
     uint64_t size;      /* bytes of the item */
-    uint64_t header;    /* record: the header's token number, 0x14 or 0x74 */
+    uint64_t header;    /* record: BSM_ID_HEADER32 or BSM_ID_HEADER64 */
     uint64_t version;   /* record */
     uint64_t event;     /* record */
     uint64_t modifier;  /* record */
@@ -91,7 +126,7 @@ enum { BSM_NO_TOKEN = 0, BSM_TOKEN = 1, BSM_TOKEN_REFUSED = 3 };
    nothing behind its fixed part it is the place where the token ends. */
 typedef struct {
     uint64_t kind;      /* BSM_NO_TOKEN at the end, BSM_TOKEN, or BSM_TOKEN_REFUSED */
-    uint64_t token;     /* the token's number */
+    uint64_t token;     /* the token's number, BSM_ID_.. */
     uint64_t start;     /* where its text, bytes, groups or strings start */
     uint64_t length;    /* and how many bytes they are, a text without its zero byte */
     uint64_t size;      /* bytes of the whole token */
@@ -101,6 +136,47 @@ typedef struct {
     uint64_t place;
     uint64_t need;
 } bsm_token;
+
+/* Where the fields of a token stand in `values`: subject and process tokens, return32 and return64, arg32 and arg64, ip, ipc_perm,
+   exit, and those with one field. */
+enum {
+    BSM_PARTY_AUDIT,
+    BSM_PARTY_EFFECTIVE_USER,
+    BSM_PARTY_EFFECTIVE_GROUP,
+    BSM_PARTY_REAL_USER,
+    BSM_PARTY_REAL_GROUP,
+    BSM_PARTY_PROCESS,
+    BSM_PARTY_SESSION,
+    BSM_PARTY_PORT,
+    BSM_PARTY_ADDRESS
+};
+enum { BSM_RETURN_ERROR, BSM_RETURN_VALUE };
+enum { BSM_ARG_ARGUMENT, BSM_ARG_VALUE };
+enum {
+    BSM_IP_VERSION,
+    BSM_IP_SERVICE,
+    BSM_IP_LENGTH,
+    BSM_IP_ID,
+    BSM_IP_OFFSET,
+    BSM_IP_TTL,
+    BSM_IP_PROTOCOL,
+    BSM_IP_CHECKSUM,
+    BSM_IP_SOURCE,
+    BSM_IP_DESTINATION
+};
+enum {
+    BSM_IPC_USER,
+    BSM_IPC_GROUP,
+    BSM_IPC_CREATOR_USER,
+    BSM_IPC_CREATOR_GROUP,
+    BSM_IPC_MODE,
+    BSM_IPC_SEQUENCE,
+    BSM_IPC_KEY
+};
+enum { BSM_EXIT_STATUS, BSM_EXIT_VALUE };
+enum { BSM_IN_ADDR_ADDRESS = 0 };
+enum { BSM_IPORT_PORT = 0 };
+enum { BSM_SEQ_SEQUENCE = 0 };
 
 bsm_token bsm_token_at(const uint8_t *body, size_t length, size_t place);
 

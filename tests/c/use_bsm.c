@@ -10,7 +10,7 @@
 
 #define REST(buffer, used) (buffer) + (used), sizeof(buffer) - (used)
 #define TEXT(s) (const uint8_t *)(s), sizeof(s) - 1
-#define NUMBERS(...) (const uint64_t[]){__VA_ARGS__}, sizeof((const uint64_t[]){__VA_ARGS__}) / sizeof(uint64_t)
+#define VALUES(...) (const uint64_t[10]){__VA_ARGS__}
 
 static uint8_t body[1024];
 static size_t body_size, tokens;
@@ -30,14 +30,14 @@ static int accepted(bsm_written w, size_t size)
 
 /* w wrote the token with this number at the body's end: `fixed` bytes, then `length` of its tail, then `behind` (a text's zero). */
 static void token(bsm_written w, uint64_t number, size_t fixed, size_t length, size_t behind, uint64_t count,
-    const uint64_t *values, size_t n)
+    const uint64_t *values)
 {
     assert(accepted(w, fixed + length + behind));
     bsm_token t = bsm_token_at(body, body_size + w.written, body_size);
     assert(t.kind == BSM_TOKEN && t.token == number && t.size == w.written && t.count == count);
     assert(t.start == body_size + fixed && t.length == length);
     for (size_t i = 0; i < 10; i++)
-        assert(t.values[i] == (i < n ? values[i] : 0));
+        assert(t.values[i] == values[i]);
     assert(t.number == 0 && t.place == 0 && t.need == 0);
     body_size += w.written;
     tokens++;
@@ -46,40 +46,51 @@ static void token(bsm_written w, uint64_t number, size_t fixed, size_t length, s
 static void write_texts(void)
 {
     const uint32_t groups[] = {10, 20, UINT32_MAX};
-    token(bsm_write_path(REST(body, body_size), TEXT("/etc/passwd")), 0x23, 3, 11, 1, 12, NULL, 0);
-    token(bsm_write_text(REST(body, body_size), TEXT("")), 0x28, 3, 0, 1, 1, NULL, 0);
-    token(bsm_write_opaque(REST(body, body_size), TEXT("\0\1\2")), 0x29, 3, 3, 0, 3, NULL, 0);
-    token(bsm_write_arg32(REST(body, body_size), 1, 700, TEXT("fd")), 0x2D, 8, 2, 1, 3, NUMBERS(1, 700));
-    token(bsm_write_arg64(REST(body, body_size), 2, UINT64_MAX, TEXT("length")), 0x71, 12, 6, 1, 7, NUMBERS(2, UINT64_MAX));
-    token(bsm_write_newgroups(REST(body, body_size), groups, 3), 0x3B, 3, sizeof groups, 0, 3, NULL, 0);
-    token(bsm_write_exec_args(REST(body, body_size), 2, TEXT("ls\0-l\0")), 0x3C, 5, 6, 0, 2, NULL, 0);
-    token(bsm_write_exec_env(REST(body, body_size), 0, TEXT("")), 0x3D, 5, 0, 0, 0, NULL, 0);
+    token(bsm_write_path(REST(body, body_size), TEXT("/etc/passwd")), BSM_ID_PATH, 3, 11, 1, 12, VALUES(0));
+    token(bsm_write_text(REST(body, body_size), TEXT("")), BSM_ID_TEXT, 3, 0, 1, 1, VALUES(0));
+    token(bsm_write_opaque(REST(body, body_size), TEXT("\0\1\2")), BSM_ID_OPAQUE, 3, 3, 0, 3, VALUES(0));
+    token(bsm_write_arg32(REST(body, body_size), 1, 700, TEXT("fd")), BSM_ID_ARG32, 8, 2, 1, 3,
+        VALUES([BSM_ARG_ARGUMENT] = 1, [BSM_ARG_VALUE] = 700));
+    token(bsm_write_arg64(REST(body, body_size), 2, UINT64_MAX, TEXT("length")), BSM_ID_ARG64, 12, 6, 1, 7,
+        VALUES([BSM_ARG_ARGUMENT] = 2, [BSM_ARG_VALUE] = UINT64_MAX));
+    token(bsm_write_newgroups(REST(body, body_size), groups, 3), BSM_ID_NEWGROUPS, 3, sizeof groups, 0, 3, VALUES(0));
+    token(bsm_write_exec_args(REST(body, body_size), 2, TEXT("ls\0-l\0")), BSM_ID_EXEC_ARGS, 5, 6, 0, 2, VALUES(0));
+    token(bsm_write_exec_env(REST(body, body_size), 0, TEXT("")), BSM_ID_EXEC_ENV, 5, 0, 0, 0, VALUES(0));
 }
 
 static void write_values(void)
 {
-    token(bsm_write_return32(REST(body, body_size), 255, 5), 0x27, 6, 0, 0, 0, NUMBERS(255, 5));
-    token(bsm_write_return64(REST(body, body_size), 0, UINT64_MAX), 0x72, 10, 0, 0, 0, NUMBERS(0, UINT64_MAX));
-    token(bsm_write_in_addr(REST(body, body_size), 0x7F000001), 0x2A, 5, 0, 0, 0, NUMBERS(0x7F000001));
-    token(bsm_write_ip(REST(body, body_size), 69, 1, 60000, 2, 3, 64, 6, 65535, 4, UINT32_MAX), 0x2B, 21, 0, 0, 0,
-        NUMBERS(69, 1, 60000, 2, 3, 64, 6, 65535, 4, UINT32_MAX));
-    token(bsm_write_iport(REST(body, body_size), 8080), 0x2C, 3, 0, 0, 0, NUMBERS(8080));
-    token(bsm_write_seq(REST(body, body_size), 9), 0x2F, 5, 0, 0, 0, NUMBERS(9));
-    token(bsm_write_ipc_perm(REST(body, body_size), 1, 2, 3, 4, 5, 6, 7), 0x32, 29, 0, 0, 0, NUMBERS(1, 2, 3, 4, 5, 6, 7));
-    token(bsm_write_exit(REST(body, body_size), 3, 4), 0x52, 9, 0, 0, 0, NUMBERS(3, 4));
+    token(bsm_write_return32(REST(body, body_size), 255, 5), BSM_ID_RETURN32, 6, 0, 0, 0,
+        VALUES([BSM_RETURN_ERROR] = 255, [BSM_RETURN_VALUE] = 5));
+    token(bsm_write_return64(REST(body, body_size), 0, UINT64_MAX), BSM_ID_RETURN64, 10, 0, 0, 0,
+        VALUES([BSM_RETURN_ERROR] = 0, [BSM_RETURN_VALUE] = UINT64_MAX));
+    token(bsm_write_in_addr(REST(body, body_size), 0x7F000001), BSM_ID_IN_ADDR, 5, 0, 0, 0,
+        VALUES([BSM_IN_ADDR_ADDRESS] = 0x7F000001));
+    token(bsm_write_ip(REST(body, body_size), 69, 1, 60000, 2, 3, 64, 6, 65535, 4, UINT32_MAX), BSM_ID_IP, 21, 0, 0, 0,
+        VALUES([BSM_IP_VERSION] = 69, [BSM_IP_SERVICE] = 1, [BSM_IP_LENGTH] = 60000, [BSM_IP_ID] = 2, [BSM_IP_OFFSET] = 3,
+            [BSM_IP_TTL] = 64, [BSM_IP_PROTOCOL] = 6, [BSM_IP_CHECKSUM] = 65535, [BSM_IP_SOURCE] = 4,
+            [BSM_IP_DESTINATION] = UINT32_MAX));
+    token(bsm_write_iport(REST(body, body_size), 8080), BSM_ID_IPORT, 3, 0, 0, 0, VALUES([BSM_IPORT_PORT] = 8080));
+    token(bsm_write_seq(REST(body, body_size), 9), BSM_ID_SEQ, 5, 0, 0, 0, VALUES([BSM_SEQ_SEQUENCE] = 9));
+    token(bsm_write_ipc_perm(REST(body, body_size), 1, 2, 3, 4, 5, 6, 7), BSM_ID_IPC_PERM, 29, 0, 0, 0,
+        VALUES([BSM_IPC_USER] = 1, [BSM_IPC_GROUP] = 2, [BSM_IPC_CREATOR_USER] = 3, [BSM_IPC_CREATOR_GROUP] = 4,
+            [BSM_IPC_MODE] = 5, [BSM_IPC_SEQUENCE] = 6, [BSM_IPC_KEY] = 7));
+    token(bsm_write_exit(REST(body, body_size), 3, 4), BSM_ID_EXIT, 9, 0, 0, 0,
+        VALUES([BSM_EXIT_STATUS] = 3, [BSM_EXIT_VALUE] = 4));
 }
+
+#define PARTY(port)                                                                                                                \
+    VALUES([BSM_PARTY_AUDIT] = 1, [BSM_PARTY_EFFECTIVE_USER] = 2, [BSM_PARTY_EFFECTIVE_GROUP] = 3, [BSM_PARTY_REAL_USER] = 4,      \
+        [BSM_PARTY_REAL_GROUP] = 5, [BSM_PARTY_PROCESS] = 6, [BSM_PARTY_SESSION] = 7, [BSM_PARTY_PORT] = port,                     \
+        [BSM_PARTY_ADDRESS] = 9)
 
 static void write_parties(void)
 {
     const uint64_t wide = (uint64_t)1 << 40;
-    token(bsm_write_subject32(REST(body, body_size), 1, 2, 3, 4, 5, 6, 7, 8, 9), 0x24, 37, 0, 0, 0,
-        NUMBERS(1, 2, 3, 4, 5, 6, 7, 8, 9));
-    token(bsm_write_process32(REST(body, body_size), 9, 8, 7, 6, 5, 4, 3, 2, 1), 0x26, 37, 0, 0, 0,
-        NUMBERS(9, 8, 7, 6, 5, 4, 3, 2, 1));
-    token(bsm_write_subject64(REST(body, body_size), 1, 2, 3, 4, 5, 6, 7, wide, 9), 0x75, 41, 0, 0, 0,
-        NUMBERS(1, 2, 3, 4, 5, 6, 7, wide, 9));
-    token(bsm_write_process64(REST(body, body_size), 9, 8, 7, 6, 5, 4, 3, wide, 1), 0x77, 41, 0, 0, 0,
-        NUMBERS(9, 8, 7, 6, 5, 4, 3, wide, 1));
+    token(bsm_write_subject32(REST(body, body_size), 1, 2, 3, 4, 5, 6, 7, 8, 9), BSM_ID_SUBJECT32, 37, 0, 0, 0, PARTY(8));
+    token(bsm_write_process32(REST(body, body_size), 1, 2, 3, 4, 5, 6, 7, 8, 9), BSM_ID_PROCESS32, 37, 0, 0, 0, PARTY(8));
+    token(bsm_write_subject64(REST(body, body_size), 1, 2, 3, 4, 5, 6, 7, wide, 9), BSM_ID_SUBJECT64, 41, 0, 0, 0, PARTY(wide));
+    token(bsm_write_process64(REST(body, body_size), 1, 2, 3, 4, 5, 6, 7, wide, 9), BSM_ID_PROCESS64, 41, 0, 0, 0, PARTY(wide));
 }
 
 /* The body as a whole, the strings of its first two tokens, its end, and places that are refused. */
@@ -112,7 +123,8 @@ static void write_trail(void)
     assert(accepted(second, 27 + 7));
     trail_size = second_place + second.written;
 
-    assert(trail[0] == 0x11 && trail[record_place] == 0x14 && trail[second_place] == 0x74);
+    assert(trail[0] == BSM_ID_FILE && trail[record_place] == BSM_ID_HEADER32 && trail[second_place] == BSM_ID_HEADER64);
+    assert(trail[trail_size - 7] == BSM_ID_TRAILER);
     assert(memcmp(trail + record_place + 19, body, body_size) == 0);
     assert(memcmp(trail + second_place - 7, "\x13\xB1\x05\0\0", 5) == 0);
 }
@@ -130,13 +142,13 @@ static void read_items(void)
     assert(same_part(bsm_body_at(trail, trail_size, 0), 0, 0));
 
     bsm_item r = bsm_item_at(trail, trail_size, record_place);
-    assert(r.kind == BSM_RECORD && r.size == 26 + body_size && r.header == 0x14 && r.version == 11 && r.event == 72);
+    assert(r.kind == BSM_RECORD && r.size == 26 + body_size && r.header == BSM_ID_HEADER32 && r.version == 11 && r.event == 72);
     assert(r.modifier == 1 && r.seconds == 1000 && r.fraction == 2000 && r.tokens == tokens && r.number == 0);
     assert(same_part(bsm_body_at(trail, trail_size, record_place), record_place + 19, body_size));
     assert(same_part(bsm_name_at(trail, trail_size, record_place), 0, 0));
 
     bsm_item w = bsm_item_at(trail, trail_size, second_place);
-    assert(w.kind == BSM_RECORD && w.size == 34 && w.header == 0x74 && w.seconds == (uint64_t)1 << 33 && w.tokens == 0);
+    assert(w.kind == BSM_RECORD && w.size == 34 && w.header == BSM_ID_HEADER64 && w.seconds == (uint64_t)1 << 33 && w.tokens == 0);
     assert(same_part(bsm_body_at(trail, trail_size, second_place), second_place + 27, 0));
 
     assert(bsm_item_at(trail, trail_size, trail_size).kind == BSM_END);
@@ -255,6 +267,26 @@ static void guard_bytes(void)
     assert(memcmp(d, before, 8) == 0 && memcmp(d + 17, before + 17, sizeof d - 17) == 0);
 }
 
+/* Each refusal, by its name. */
+static void name_refusals(void)
+{
+    uint8_t d[64] = {0};
+    const size_t room = sizeof d, n = bsm_write_record32(d, room, 11, 72, 0, 1, 2, NULL, 0).written;
+    assert(bsm_item_at(d, n - 1, 0).number == BSM_REFUSAL_SHORT);
+    assert(bsm_item_at(d, n, n + 1).number == BSM_REFUSAL_PLACE);
+    assert(bsm_item_at(d, n, 1).number == BSM_REFUSAL_NOT_AN_ITEM);
+    d[4]++; /* the count's last byte */
+    assert(bsm_item_at(d, n + 1, 0).number == BSM_REFUSAL_TRAILER);
+    d[1]++; /* and its first */
+    assert(bsm_item_at(d, n, 0).number == BSM_REFUSAL_RECORD_LENGTH);
+    assert(bsm_walk_body(TEXT("\0")).number == BSM_REFUSAL_NOT_A_BODY_TOKEN);
+    assert(bsm_walk_body(TEXT("\x2c\0")).number == BSM_REFUSAL_PAST_END);
+    assert(bsm_walk_body(TEXT("\x28\0\1a")).number == BSM_REFUSAL_BAD_TEXT);
+    assert(bsm_write_record32(d, room, 0, 0, 0, 0, 1000000000, NULL, 0).number == BSM_REFUSAL_TIME_RANGE);
+    assert(bsm_write_seq(d, 4, 1).number == BSM_REFUSAL_NO_ROOM);
+    assert(bsm_write_record32(d, room, 0, 0, 0, (uint64_t)1 << 32, 0, NULL, 0).number == BSM_REFUSAL_TOO_LARGE);
+}
+
 /* A null pointer with length 0 stands for nothing, in every parameter of every function. */
 #define NOTHING NULL, 0
 
@@ -367,6 +399,7 @@ int main(void)
     list_no_line();
     line_of_no_item();
     guard_bytes();
+    name_refusals();
     read_nothing();
     write_into_nothing();
     write_nothing();
