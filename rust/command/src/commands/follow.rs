@@ -12,6 +12,7 @@ use crate::system::{catch_interrupts, interrupted, wait, Woken};
 use bsm::{Reader, Reason, Refusal};
 use std::ffi::{OsStr, OsString};
 use std::io::{self, ErrorKind, Write};
+use std::mem::take;
 use std::os::fd::AsFd;
 use std::time::Duration;
 
@@ -101,7 +102,7 @@ impl Follow<'_> {
         self.view.form.write_first(&mut self.out)?;
         let mut readable = false;
         while !interrupted() {
-            let news = match self.followed.look(readable) {
+            let news = match self.followed.look(take(&mut readable)) {
                 Ok(news) => news,
                 Err(error) => {
                     self.out.flush()?;

@@ -45,8 +45,8 @@ impl Way {
             Way::Script => {
                 let root = Path::new(env!("CARGO_MANIFEST_DIR")).join("../..");
                 // It proves and builds a program that is missing.
-                let built = root.join("target/bin/bsmlist");
-                assert!(built.is_file(), "run `rt check bsmlist` first");
+                let built = root.join("target/bin/bsmlist.seal");
+                assert!(built.is_file(), "run `scripts/ready test program` first");
                 Command::new(root.join("bsmlist"))
             }
         }
@@ -127,7 +127,7 @@ fn failed(way: Way, ended: &Ended, report: &str) {
     assert!(stderr.starts_with(report), "{way:?}: {stderr}");
     let code = match way {
         Way::Program => 0,
-        Way::Script => 1,
+        Way::Script => 2,
     };
     assert_eq!(status.code(), Some(code), "{way:?}: {status}: {stderr}");
     let lines = stdout.split(|&byte| byte == b'\n');

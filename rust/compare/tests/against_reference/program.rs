@@ -16,8 +16,8 @@ pub fn program() -> PathBuf {
     };
     assert!(
         path.is_file(),
-        "{} is missing: run `rt check bsmlist` in the repository's root to make it, \
-         or set BSM_PROGRAM",
+        "{} is missing: run `scripts/ready test program` in the repository's root to make \
+         it, or set BSM_PROGRAM",
         path.display()
     );
     path

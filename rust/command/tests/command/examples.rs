@@ -1,0 +1,96 @@
+//! The examples: in C with the line of the README, and in Rust.
+
+use crate::run::*;
+use crate::trails::*;
+use bsm::Token;
+use std::fs;
+use std::path::{Path, PathBuf};
+use std::process::Command;
+
+/// The README's line that links the archive, with another place for the
+/// program.
+fn gcc_line(program: &Path) -> String {
+    let readme = fs::read_to_string(root().join("README.md")).expect("a README");
+    let mut lines = readme
+        .lines()
+        .filter_map(|line| line.trim().strip_prefix("gcc "));
+    let line = lines.next().expect("a line that links the archive");
+    let (rest, _) = line
+        .split_once(" -o ")
+        .expect("the program's name at its end");
+    format!(
+        "gcc -Wall -Wextra -Werror {rest} -o '{}'",
+        program.display()
+    )
+}
+
+fn example_in_c(scratch: &Scratch) -> PathBuf {
+    let program = scratch.path().join("find_session");
+    let mut shell = Command::new("/bin/sh");
+    shell.args(["-c", &gcc_line(&program)]).current_dir(root());
+    let built = ended(shell);
+    assert_eq!((built.status, &built.stderr[..]), (0, ""));
+    program
+}
+
+/// Built with the tests of the crate bsm.
+fn example_in_rust() -> PathBuf {
+    let program = built().with_file_name("examples").join("find_session");
+    assert!(
+        program.is_file(),
+        "run `cargo build --release --examples` first"
+    );
+    program
+}
+
+#[test]
+fn both_find_the_session() {
+    let scratch = Scratch::new();
+    let programs = [example_in_c(&scratch), example_in_rust()];
+    let text_of = |text| Token::Text { text };
+    let records = [
+        record(
+            &header(1, 5),
+            &[Token::Subject32(party(1, 1)), text_of(b"one")],
+        ),
+        record(
+            &header(2, 6),
+            &[Token::Seq { sequence: 7 }, text_of(b"two")],
+        ),
+        record(
+            &header(3, 7),
+            &[
+                text_of(STEERING),
+                Token::Process64(party(1, 1)),
+                Token::Path { text: b"/a" },
+            ],
+        ),
+    ];
+    let third = records[0].len() + records[1].len();
+    let trail = records.concat();
+    for program in &programs {
+        let run = |session: &str, trail: &[u8]| {
+            let mut command = Command::new(program);
+            command.arg(session);
+            fed(command, trail)
+        };
+        let found = run("7", &trail);
+        let first = "0\tevent 1\t5.000000000\tuser 1\n\tone\n";
+        let last = text(&found.stdout)
+            .strip_prefix(first)
+            .expect("it is there");
+        let lines: Vec<&str> = last.lines().collect();
+        assert_eq!(lines[0], format!("{third}\tevent 3\t7.000000000\tuser 1"));
+        assert!(lines[1].starts_with("\t\\x1b[2J\\x07\\x0d\\x0a\\x09\"\\x5c\\x7f"));
+        assert_eq!(lines[2..], ["\t/a"]);
+        assert_eq!((found.status, &found.stderr[..]), (0, ""));
+        assert_eq!(run("8", &trail).stdout, b"");
+
+        let short = run("7", &trail[..trail.len() - 1]);
+        assert_eq!(text(&short.stdout), first);
+        let end = ": still being written\n";
+        assert!(short.stderr.ends_with(end), "{}", short.stderr);
+        assert_eq!(short.status, 1);
+        assert_eq!(run("seven", &trail).status, 2);
+    }
+}

@@ -1,0 +1,382 @@
+//! `bsm follow` on files that grow, shrink and go.
+
+use crate::run::*;
+use crate::trails::*;
+use generator::*;
+use std::fs::{self, File};
+use std::io::{Read, Write};
+use std::path::{Path, PathBuf};
+use std::process::{Child, ChildStdin, Command, Stdio};
+use std::sync::{Arc, Mutex};
+use std::thread::{self, sleep, JoinHandle};
+use std::time::{Duration, Instant};
+
+/// How long anything may take here.
+const PATIENCE: Duration = Duration::from_secs(30);
+
+/// A command that follows, and what it has written so far.
+struct Following {
+    child: Child,
+    seen: Arc<Mutex<Vec<u8>>>,
+    reading: JoinHandle<()>,
+}
+
+impl Following {
+    fn start(mut command: Command) -> Following {
+        command.stdout(Stdio::piped()).stderr(Stdio::piped());
+        let mut child = command.spawn().expect("it starts");
+        let mut stdout = child.stdout.take().expect("a pipe");
+        let seen = Arc::new(Mutex::new(Vec::new()));
+        let shared = Arc::clone(&seen);
+        let reading = thread::spawn(move || {
+            let mut bytes = [0; 4_096];
+            loop {
+                match stdout.read(&mut bytes).expect("a pipe can be read") {
+                    0 => return,
+                    count => shared.lock().unwrap().extend(&bytes[..count]),
+                }
+            }
+        });
+        Following {
+            child,
+            seen,
+            reading,
+        }
+    }
+
+    /// On a file, looking for more at each millisecond.
+    fn file(words: &[&str], path: &Path) -> Following {
+        let mut command = bsm([&["follow", "--interval", "0.001"], words].concat());
+        command.arg(path).stdin(Stdio::null());
+        Following::start(command)
+    }
+
+    fn seen(&self) -> String {
+        String::from_utf8(self.seen.lock().unwrap().clone()).expect("it is text")
+    }
+
+    /// Waits until this much was written, and nothing else.
+    fn wait_for(&self, expected: &str) {
+        let start = Instant::now();
+        while self.seen() != expected {
+            let seen = self.seen();
+            assert!(
+                expected.starts_with(&seen),
+                "{seen:?} is no part of {expected:?}"
+            );
+            assert!(start.elapsed() < PATIENCE, "{seen:?} is not {expected:?}");
+            sleep(Duration::from_micros(200));
+        }
+    }
+
+    fn signal(&self, name: &str) {
+        let mut kill = Command::new("/bin/sh");
+        kill.args([
+            "-c",
+            "kill -s \"$0\" \"$1\"",
+            name,
+            &self.child.id().to_string(),
+        ]);
+        assert!(kill.status().expect("a shell").success());
+    }
+
+    fn ended(mut self) -> Ended {
+        let start = Instant::now();
+        let status = loop {
+            if let Some(status) = self.child.try_wait().expect("a child") {
+                break status;
+            }
+            if start.elapsed() > PATIENCE {
+                self.child.kill().expect("a child can be ended");
+                panic!("it does not end");
+            }
+            sleep(Duration::from_millis(1));
+        };
+        self.reading.join().expect("it was read");
+        let mut stderr = String::new();
+        let mut pipe = self.child.stderr.take().expect("a pipe");
+        pipe.read_to_string(&mut stderr).expect("it is text");
+        let stdout = self.seen.lock().unwrap().clone();
+        Ended {
+            status: status.code().expect("no signal ended it"),
+            stdout,
+            stderr,
+        }
+    }
+
+    /// Interrupts it, and sees that it has written the listing of a trail.
+    fn interrupted_after(self, trail: &[u8]) {
+        self.signal("INT");
+        let ended = self.ended();
+        assert_eq!(text(&ended.stdout), text(&reference::listing(trail)));
+        assert_eq!(ended.status, status_of(trail), "{}", ended.stderr);
+    }
+}
+
+/// A listing without its last line.
+fn lines_so_far(trail: &[u8]) -> String {
+    let listing = reference::listing(trail);
+    let lines: Vec<&str> = text(&listing).split_inclusive('\n').collect();
+    lines[..lines.len() - 1].concat()
+}
+
+fn append(path: &Path, bytes: &[u8]) {
+    let file = File::options().append(true).open(path);
+    file.expect("it is there")
+        .write_all(bytes)
+        .expect("it can be written");
+}
+
+/// What the command prints of a trail that is all there.
+fn printed(words: &[&str], trail: &[u8], path: &Path) -> Vec<u8> {
+    let _ = fs::write(path, trail);
+    let mut command = bsm(words);
+    command.arg(path);
+    ended(command).stdout
+}
+
+/// Each line stands there as soon as its item is whole, and not earlier.
+#[test]
+fn byte_by_byte() {
+    let scratch = Scratch::new();
+    let path = scratch.file("trail", b"");
+    let mut rng = Rng::new(851);
+    let trail = loop {
+        let trail = good_trail(&mut rng, 6);
+        if trail.len() < 1_000 {
+            break trail;
+        }
+    };
+    let following = Following::file(&["--list"], &path);
+    for end in 0..trail.len() {
+        append(&path, &trail[end..end + 1]);
+        following.wait_for(&lines_so_far(&trail[..end + 1]));
+    }
+    following.interrupted_after(&trail);
+}
+
+#[test]
+fn in_random_steps() {
+    let scratch = Scratch::new();
+    let mut rng = Rng::new(852);
+    for round in 0..30 {
+        let path = scratch.file(format!("trail{round}"), b"");
+        let mut trail = good_trail(&mut rng, 20);
+        if round % 3 == 0 {
+            trail.truncate(trail.len() - 1);
+        }
+        let following = Following::file(&["--list"], &path);
+        let mut from = 0;
+        for end in growth(&mut rng, trail.len()) {
+            append(&path, &trail[from..end]);
+            following.wait_for(&lines_so_far(&trail[..end]));
+            from = end;
+        }
+        append(&path, &trail[from..]);
+        following.wait_for(&lines_so_far(&trail));
+        following.interrupted_after(&trail);
+    }
+}
+
+/// What was damaged stays damaged: there is nothing to wait for.
+#[test]
+fn a_refusal_ends_it() {
+    let scratch = Scratch::new();
+    let mut rng = Rng::new(853);
+    let mut refused = 0;
+    for number in 3..=9 {
+        let mut trail = good_trail(&mut rng, 3);
+        trail.extend(targeted(&mut rng, number).0);
+        if status_of(&trail) != 1 {
+            continue;
+        }
+        refused += 1;
+        let path = scratch.file(format!("trail{number}"), &trail);
+        let ended = Following::file(&["--list"], &path).ended();
+        assert_eq!(text(&ended.stdout), text(&reference::listing(&trail)));
+        assert_eq!(ended.status, 1);
+        assert!(ended.stderr.contains(": refused: "), "{}", ended.stderr);
+    }
+    assert!(refused > 3);
+}
+
+/// The forms of print, and a choice.
+#[test]
+fn other_forms() {
+    let scratch = Scratch::new();
+    let path = scratch.file("trail", b"");
+    let trail = [tokens_trail(), record(&header(7, 1), &[])].concat();
+    for words in [
+        &[][..],
+        &["--json"],
+        &["--event", "7"],
+        &["--json", "--session=16"],
+    ] {
+        let whole = printed(&[&["print"], words].concat(), &trail, &path);
+        fs::write(&path, b"").expect("it can be written");
+        let following = Following::file(words, &path);
+        append(&path, &trail[..100]);
+        append(&path, &trail[100..]);
+        following.wait_for(text(&whole));
+        following.signal("TERM");
+        let ended = following.ended();
+        assert_eq!((ended.status, &ended.stderr[..]), (0, ""));
+        assert_eq!(ended.stdout, whole);
+    }
+}
+
+/// Starts it on a trail of two items, all of which it has listed.
+fn started(scratch: &Scratch) -> (Following, PathBuf, Vec<u8>) {
+    let trail = tokens_trail();
+    let path = scratch.file("trail", &trail);
+    let following = Following::file(&["--list"], &path);
+    following.wait_for(&lines_so_far(&trail));
+    (following, path, trail)
+}
+
+/// Sees that it ended since the file has changed, with this line.
+fn changed(following: Following, path: &Path, what: &str, listed: &str) {
+    let ended = following.ended();
+    assert_eq!(ended.stderr, format!("bsm: {}: {what}\n", path.display()));
+    assert_eq!(ended.status, 4);
+    assert_eq!(text(&ended.stdout), listed);
+}
+
+/// What was listed is no longer there, so that no last line says that the
+/// listing is whole.
+#[test]
+fn a_file_that_shrinks() {
+    let scratch = Scratch::new();
+    let (following, path, trail) = started(&scratch);
+    let file = File::options()
+        .write(true)
+        .open(&path)
+        .expect("it is there");
+    file.set_len(10).expect("it can be cut");
+    changed(
+        following,
+        &path,
+        "has become shorter",
+        &lines_so_far(&trail),
+    );
+}
+
+#[test]
+fn a_file_that_is_written_over() {
+    let scratch = Scratch::new();
+    // As long as it was, and longer.
+    for more in [0, 50] {
+        let (following, path, trail) = started(&scratch);
+        sleep(Duration::from_millis(20));
+        let other = vec![0x11; trail.len() + more];
+        let file = File::options().write(true).open(&path);
+        file.expect("it is there")
+            .write_all(&other)
+            .expect("it can be written");
+        changed(
+            following,
+            &path,
+            "has been written over",
+            &lines_so_far(&trail),
+        );
+    }
+}
+
+/// All of the old file is listed, also what was written to it just before.
+#[test]
+fn a_file_that_is_replaced_or_removed() {
+    let scratch = Scratch::new();
+    for replaced in [true, false] {
+        let (following, path, mut trail) = started(&scratch);
+        let last = record(&header(1, 1), &[]);
+        append(&path, &last);
+        trail.extend(last);
+        let what = match replaced {
+            true => {
+                let other = scratch.file("other", b"\x11");
+                fs::rename(other, &path).expect("it can be renamed");
+                "has been replaced by another file"
+            }
+            false => {
+                fs::remove_file(&path).expect("it can be removed");
+                "has been removed"
+            }
+        };
+        let listing = reference::listing(&trail);
+        changed(following, &path, what, text(&listing));
+    }
+}
+
+/// A pipe is read as it comes, until its end or an interrupt.
+#[test]
+fn standard_input() {
+    for interrupt in [false, true] {
+        let mut command = bsm(["follow", "--list"]);
+        command.stdin(Stdio::piped());
+        let mut following = Following::start(command);
+        let mut stdin: ChildStdin = following.child.stdin.take().expect("a pipe");
+        let trail = tokens_trail();
+        for (from, end) in [(0, 30), (30, trail.len())] {
+            stdin.write_all(&trail[from..end]).expect("it reads");
+            following.wait_for(&lines_so_far(&trail[..end]));
+        }
+        stdin.write_all(&trail[..7]).expect("it reads");
+        let trail = [&trail[..], &trail[..7]].concat();
+        if interrupt {
+            following.signal("INT");
+        } else {
+            drop(stdin);
+        }
+        let ended = following.ended();
+        let listing = lines_so_far(&trail);
+        assert!(text(&ended.stdout).starts_with(&listing));
+        // The last seven bytes may or may not have been read before it.
+        let whole = text(&ended.stdout) == text(&reference::listing(&trail));
+        assert!(whole || interrupt);
+        assert!(ended.status == 3 || (interrupt && ended.status == 0));
+    }
+}
+
+/// Standard input that is a file, read on from where it stands.
+#[test]
+fn standard_input_from_a_file() {
+    let scratch = Scratch::new();
+    let trail = tokens_trail();
+    let path = scratch.file("trail", &[b"before", &trail[..]].concat());
+    let mut file = File::open(&path).expect("it is there");
+    file.read_exact(&mut [0; 6]).expect("six bytes");
+    let mut command = bsm(["follow", "--list", "--interval=0.001"]);
+    command.stdin(file);
+    let following = Following::start(command);
+    following.wait_for(&lines_so_far(&trail));
+    append(&path, &trail);
+    let twice = [&trail[..], &trail[..]].concat();
+    following.wait_for(&lines_so_far(&twice));
+    following.interrupted_after(&twice);
+}
+
+#[test]
+fn what_cannot_be_followed() {
+    let scratch = Scratch::new();
+    scratch.file("trail", b"");
+    for (words, said) in [
+        (&["missing"][..], "missing: No such file or directory"),
+        (&["."], ".: Is a directory"),
+        (
+            &["trail", "trail"],
+            "one FILE can be followed at a time; see 'bsm help follow'",
+        ),
+        (
+            &["--interval", "0", "trail"],
+            "--interval 0: not a time of 0.001 to 86400 seconds; see 'bsm help follow'",
+        ),
+        (
+            &["--interval", "nan"],
+            "--interval nan: not a time of 0.001 to 86400 seconds; see 'bsm help follow'",
+        ),
+    ] {
+        let ended = ended(scratch.bsm([&["follow"], words].concat()));
+        assert_eq!(ended.stderr, format!("bsm: {said}\n"));
+        assert_eq!((ended.status, &ended.stdout[..]), (2, &b""[..]));
+    }
+}

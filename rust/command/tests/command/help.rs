@@ -1,0 +1,66 @@
+//! Help, wherever it is asked for.
+
+use crate::run::*;
+
+const SUBCOMMANDS: [&str; 3] = ["list", "print", "follow"];
+
+fn help(words: &[&str]) -> String {
+    let ended = ended(bsm(words));
+    assert_eq!((ended.status, &ended.stderr[..]), (0, ""), "{words:?}");
+    text(&ended.stdout).to_string()
+}
+
+#[test]
+fn general_help() {
+    let general = help(&["help"]);
+    for words in [
+        &["-h"][..],
+        &["--help"],
+        &["help", "help"],
+        &["help", "--help"],
+    ] {
+        assert_eq!(help(words), general);
+    }
+    for subcommand in SUBCOMMANDS {
+        assert!(
+            general.contains(&format!("\n  {subcommand:8} ")),
+            "{general}"
+        );
+    }
+    for status in ["0 ", "1 ", "2 ", "3 ", "4 ", "141 "] {
+        assert!(general.contains(status), "{general}");
+    }
+}
+
+#[test]
+fn help_of_each() {
+    for subcommand in SUBCOMMANDS {
+        let of_it = help(&["help", subcommand]);
+        assert!(of_it.starts_with(&format!("usage: bsm {subcommand} ")));
+        for words in [
+            &["-h"][..],
+            &["--help"],
+            &["missing", "--help"],
+            &["--event", "1", "-h", "missing"],
+        ] {
+            assert_eq!(help(&[&[subcommand], words].concat()), of_it);
+        }
+        for option in ["--event", "--session", "--user", "--since", "--until"] {
+            assert!(of_it.contains(option), "{of_it}");
+        }
+    }
+}
+
+#[test]
+fn lines_fit_a_terminal() {
+    for words in [
+        &["help"][..],
+        &["help", "list"],
+        &["help", "print"],
+        &["help", "follow"],
+    ] {
+        let help = help(words);
+        let long = help.lines().find(|line| line.len() > 90);
+        assert_eq!(long, None);
+    }
+}

@@ -1,0 +1,16 @@
+//! Runs the built command `bsm`, the launchers at the repository's root, the
+//! examples, and what the documents show.
+
+mod choosing;
+mod documents;
+mod escapes;
+mod examples;
+mod failing;
+mod files;
+mod follow;
+mod help;
+mod launchers;
+mod listing;
+mod printing;
+mod run;
+mod trails;

@@ -1,0 +1,134 @@
+//! Trails for the tests.
+
+use bsm::{write_record, write_token, Header, HeaderKind, IpHeader, IpcPerm, NewToken, Party};
+use bsm::{Strings, Token};
+
+/// What a trail would write to a terminal if it could: an escape sequence,
+/// line ends, tabs, quotes, Latin-1, UTF-8 and the controls of both.
+pub const STEERING: &[u8] =
+    b"\x1b[2J\x07\r\n\t\"\\\x7f\x80\x9b\xff \xc3\xb6 \xe2\x82\xac \xf0\x9f\x98\x80";
+
+/// A record of these tokens.
+pub fn record(header: &Header, tokens: &[NewToken<'_>]) -> Vec<u8> {
+    let mut body = vec![0; 65_536];
+    let mut used = 0;
+    for token in tokens {
+        used += write_token(&mut body[used..], token).expect("a good token");
+    }
+    let mut record = vec![0; 65_536];
+    let size = write_record(&mut record, header, &body[..used]).expect("a good record");
+    record.truncate(size);
+    record
+}
+
+/// A header with this event and this second.
+pub fn header(event: u16, seconds: u64) -> Header {
+    let mut header = Header::new(HeaderKind::Header32);
+    header.version = 11;
+    header.event = event;
+    header.seconds = seconds;
+    header
+}
+
+/// A party with users and session that tell each other apart.
+pub fn party<P>(first: u32, port: P) -> Party<P> {
+    Party {
+        audit: first,
+        effective_user: first + 1,
+        effective_group: first + 2,
+        real_user: first + 3,
+        real_group: first + 4,
+        process: first + 5,
+        session: first + 6,
+        port,
+        address: 0xC000_0200 + first,
+    }
+}
+
+/// A token of each kind, with texts that steer a terminal.
+pub fn every_token() -> Vec<NewToken<'static>> {
+    vec![
+        Token::Path {
+            text: b"/etc/passwd",
+        },
+        Token::Subject32(party(10, 22)),
+        Token::Process32(party(20, 23)),
+        Token::Return32 {
+            error: 255,
+            value: u32::MAX,
+        },
+        Token::Text { text: STEERING },
+        Token::Opaque { bytes: STEERING },
+        Token::InAddr {
+            address: 0x7F00_0001,
+        },
+        Token::Ip(IpHeader {
+            version: 69,
+            service: 1,
+            length: 60_000,
+            id: 2,
+            offset: 3,
+            ttl: 64,
+            protocol: 6,
+            checksum: 65_535,
+            source: 0xC633_6407,
+            destination: u32::MAX,
+        }),
+        Token::Iport { port: 8_080 },
+        Token::Arg32 {
+            argument: 1,
+            value: 700,
+            text: b"fd",
+        },
+        Token::Seq { sequence: 9 },
+        Token::IpcPerm(IpcPerm {
+            user: 1,
+            group: 2,
+            creator_user: 3,
+            creator_group: 4,
+            mode: 0o600,
+            sequence: 6,
+            key: 7,
+        }),
+        Token::NewGroups {
+            groups: &[10, 20, u32::MAX],
+        },
+        Token::ExecArgs(Strings {
+            count: 3,
+            bytes: b"ls\0\0-l \x1b[31m\0",
+        }),
+        Token::ExecEnv(Strings {
+            count: 0,
+            bytes: b"",
+        }),
+        Token::Exit {
+            status: 3,
+            value: 4,
+        },
+        Token::Arg64 {
+            argument: 2,
+            value: u64::MAX,
+            text: b"",
+        },
+        Token::Return64 {
+            error: 0,
+            value: u64::MAX,
+        },
+        Token::Subject64(party(30, 1 << 40)),
+        Token::Process64(party(40, u64::MAX)),
+    ]
+}
+
+/// All of them in two records, so that no record has two subjects, with
+/// fields at their bounds in the second header.
+pub fn tokens_trail() -> Vec<u8> {
+    let mut wide = header(u16::MAX, u64::MAX);
+    wide.kind = HeaderKind::Header64;
+    wide.version = u16::MAX;
+    wide.modifier = u16::MAX;
+    wide.nanoseconds = 999_999_999;
+    let second = |token: &NewToken<'_>| matches!(token, Token::Subject64(_));
+    let (second, first): (Vec<_>, Vec<_>) = every_token().into_iter().partition(second);
+    let first = record(&header(6_152, 1_763_200_000), &first);
+    [first, record(&wide, &second)].concat()
+}
