@@ -1,6 +1,7 @@
 //! The answers as C sees them, every field of them.
 
 use bsm::sys::*;
+use bsm::Reason;
 use compare::*;
 use generator::*;
 use reference::{Answer, Item, Party, Refusal, State, Token, TokenAnswer};
@@ -354,26 +355,74 @@ fn writers_and_lists_field_by_field() {
     assert_eq!(checked, 2_000);
 }
 
-/// The numbers that a C program gets from the header are those of the
-/// wrapper.
-#[test]
-fn constants_of_the_header() {
+/// The names and numbers of the header's enumerations and of its macro.
+fn told_names() -> Vec<(String, u64)> {
     let header = include_str!("../../../../include/bsm.h");
     let mut told = Vec::new();
-    for line in header.lines() {
-        if let Some(names) = line.strip_prefix("enum {") {
-            let (names, _) = names.split_once('}').expect("on one line");
-            told.extend(names.split(',').map(|one| one.split_once('=')));
-        } else if let Some(one) = line.strip_prefix("#define BSM_LINE_MAX") {
-            told.push(Some(("BSM_LINE_MAX", one)));
+    for behind in header.split("enum {").skip(1) {
+        let (names, _) = behind.split_once('}').expect("its end");
+        let mut next = 0;
+        for line in names.split_inclusive([',', '\n']) {
+            let (line, _) = line.split_once("/*").unwrap_or((line, ""));
+            let one = line.trim().trim_end_matches(',');
+            if one.is_empty() || line.contains("*/") {
+                continue;
+            }
+            let (name, number) = match one.split_once('=') {
+                Some((name, number)) => (name.trim(), number_of(number.trim())),
+                None => (one, next),
+            };
+            next = number + 1;
+            told.push((name.to_string(), number));
         }
     }
-    let told: Vec<(&str, u64)> = told
-        .into_iter()
-        .map(|one| one.expect("a name and a number"))
-        .map(|(name, number)| (name.trim(), number.trim().parse().expect("a number")))
-        .collect();
-    let known = [
+    let (_, behind) = header.split_once("#define BSM_LINE_MAX ").expect("a macro");
+    let number = number_of(behind.lines().next().expect("a line"));
+    told.push(("BSM_LINE_MAX".to_string(), number));
+    told
+}
+
+fn number_of(text: &str) -> u64 {
+    let number = match text.strip_prefix("0x") {
+        Some(digits) => u64::from_str_radix(digits, 16),
+        None => text.parse(),
+    };
+    number.expect("a number")
+}
+
+/// The numbers that a C program gets from the header are those of the
+/// wrapper. Which field an index names is tried in C.
+#[test]
+fn constants_of_the_header() {
+    let told = told_names();
+    let some = |prefix: &str| -> Vec<(&str, u64)> {
+        let named = told
+            .iter()
+            .filter_map(|(name, number)| Some((name.strip_prefix(prefix)?, *number)));
+        named.collect()
+    };
+    let refusals = [
+        ("SHORT", Reason::Short),
+        ("PLACE", Reason::Place),
+        ("NOT_AN_ITEM", Reason::NotAnItem),
+        ("RECORD_LENGTH", Reason::RecordLength),
+        ("TRAILER", Reason::Trailer),
+        ("NOT_A_BODY_TOKEN", Reason::NotABodyToken),
+        ("PAST_END", Reason::PastEnd),
+        ("BAD_TEXT", Reason::BadText),
+        ("TIME_RANGE", Reason::TimeRange),
+        ("NO_ROOM", Reason::NoRoom),
+        ("TOO_LARGE", Reason::TooLarge),
+    ];
+    let refusals = refusals.map(|(name, reason)| (name, reason.number().into()));
+    assert_eq!(some("BSM_REFUSAL_"), refusals);
+
+    let mut numbers = [&TOKEN_NUMBERS[..], &[0x11, 0x13, 0x14, 0x74]].concat();
+    numbers.sort();
+    let ids: Vec<u64> = some("BSM_ID_").iter().map(|(_, number)| *number).collect();
+    assert!(ids.iter().copied().eq(numbers.into_iter().map(u64::from)));
+
+    for (name, number) in [
         ("BSM_END", BSM_END),
         ("BSM_FILE", BSM_FILE),
         ("BSM_RECORD", BSM_RECORD),
@@ -385,6 +434,7 @@ fn constants_of_the_header() {
         ("BSM_LIST_FIRST", BSM_LIST_FIRST),
         ("BSM_LIST_AT", BSM_LIST_AT),
         ("BSM_LIST_DONE", BSM_LIST_DONE),
-    ];
-    assert_eq!(told, known);
+    ] {
+        assert_eq!(some(name).first(), Some(&("", number)), "{name}");
+    }
 }
