@@ -30,16 +30,16 @@ impl From<io::Error> for Halt {
     }
 }
 
-/// The value that belongs to an option: behind its `=`, or the next word.
-pub struct Values<'a> {
+/// The value that is given with an option: behind its `=`, or the next word.
+pub struct Given<'a> {
     option: &'a str,
     attached: Option<String>,
     words: &'a mut IntoIter<OsString>,
 }
 
-impl Values<'_> {
-    /// Takes the value.
-    pub fn one(&mut self) -> Result<String, String> {
+impl Given<'_> {
+    /// Takes it.
+    pub fn value(&mut self) -> Result<String, String> {
         let value = match self.attached.take() {
             Some(value) => Some(value),
             None => self.words.next().map(|word| shown(&word)),
@@ -63,7 +63,7 @@ pub struct Files {
 /// standard input is read only where it is named.
 pub fn read(
     words: Vec<OsString>,
-    mut take: impl FnMut(&str, &mut Values<'_>) -> Result<bool, String>,
+    mut take: impl FnMut(&str, &mut Given<'_>) -> Result<bool, String>,
 ) -> Result<Files, Halt> {
     let mut names = Vec::new();
     let mut status = Status::Ended;
@@ -92,7 +92,7 @@ fn is_option(word: &OsStr) -> bool {
 fn take_option(
     word: &str,
     words: &mut IntoIter<OsString>,
-    take: &mut impl FnMut(&str, &mut Values<'_>) -> Result<bool, String>,
+    take: &mut impl FnMut(&str, &mut Given<'_>) -> Result<bool, String>,
 ) -> Result<bool, Halt> {
     let (option, attached) = match word.split_once('=') {
         Some((option, value)) => (option, Some(value.to_string())),
@@ -101,13 +101,13 @@ fn take_option(
     if option == "-h" || option == "--help" {
         return Err(Halt::Help);
     }
-    let mut values = Values {
+    let mut given = Given {
         option,
         attached,
         words,
     };
-    let known = take(option, &mut values)?;
-    if known && values.attached.is_some() {
+    let known = take(option, &mut given)?;
+    if known && given.attached.is_some() {
         return Err(Halt::Usage(format!("{option} takes no value")));
     }
     Ok(known)

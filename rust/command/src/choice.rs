@@ -1,6 +1,6 @@
 //! Choosing items, by the options that list, print and follow share.
 
-use crate::args::Values;
+use crate::args::Given;
 use crate::fields::time_of;
 use crate::reading::tokens_of;
 use crate::time::{Time, FORMS};
@@ -32,13 +32,13 @@ A file token has a time, but no event, session or user.
 
 impl Choice {
     /// Takes an option if it is one of these.
-    pub fn take(&mut self, option: &str, values: &mut Values<'_>) -> Result<bool, String> {
+    pub fn take(&mut self, option: &str, given: &mut Given<'_>) -> Result<bool, String> {
         match option {
-            "--event" => once(&mut self.event, option, number(option, &values.one()?)?)?,
-            "--session" => self.sessions.push(number(option, &values.one()?)?),
-            "--user" => self.users.push(number(option, &values.one()?)?),
-            "--since" => once(&mut self.since, option, time(option, &values.one()?)?)?,
-            "--until" => once(&mut self.until, option, time(option, &values.one()?)?)?,
+            "--event" => once(&mut self.event, option, number(option, &given.value()?)?)?,
+            "--session" => self.sessions.push(number(option, &given.value()?)?),
+            "--user" => self.users.push(number(option, &given.value()?)?),
+            "--since" => once(&mut self.since, option, time(option, &given.value()?)?)?,
+            "--until" => once(&mut self.until, option, time(option, &given.value()?)?)?,
             _ => return Ok(false),
         }
         Ok(true)

@@ -126,19 +126,20 @@ impl Watched {
     /// Reads the last bytes again, and what stands behind them.
     fn read_on(&mut self, trail: &mut Vec<u8>) -> io::Result<News> {
         let last = trail.len().saturating_sub(AGAIN);
-        let mut bytes = Vec::new();
+        let known = &trail[last..];
         self.file.seek(SeekFrom::Start(self.start + last as u64))?;
-        self.file.read_to_end(&mut bytes)?;
-        let Some((again, more)) = bytes.split_at_checked(trail.len() - last) else {
+        let mut again = Vec::new();
+        let mut part = self.file.by_ref().take(known.len() as u64);
+        part.read_to_end(&mut again)?;
+        if again.len() < known.len() {
             return Ok(News::Lost("has become shorter"));
-        };
-        if again != &trail[last..] {
+        }
+        if again != known {
             return Ok(News::Lost("has been written over"));
         }
-        trail.extend(more);
-        Ok(match more.is_empty() {
-            true => News::Same,
-            false => News::More,
+        Ok(match self.file.read_to_end(trail)? {
+            0 => News::Same,
+            _ => News::More,
         })
     }
 

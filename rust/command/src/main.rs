@@ -63,8 +63,9 @@ fn main() -> ExitCode {
 }
 
 fn find(word: &OsStr) -> Option<&'static Subcommand> {
-    static ALL: [Subcommand; SUBCOMMANDS.len()] = SUBCOMMANDS;
-    ALL.iter().find(|subcommand| word == subcommand.name)
+    SUBCOMMANDS
+        .iter()
+        .find(|subcommand| word == subcommand.name)
 }
 
 fn is_help(word: &OsStr) -> bool {

@@ -19,22 +19,28 @@ struct PollFd {
     revents: i16,
 }
 
+/// What a signal does by default.
+const SIG_DFL: usize = 0;
+
 extern "C" {
-    fn signal(number: c_int, handler: extern "C" fn(c_int)) -> usize;
+    fn signal(number: c_int, handler: usize) -> usize;
     fn poll(fds: *mut PollFd, count: c_ulong, milliseconds: c_int) -> c_int;
 }
 
 static INTERRUPTED: AtomicBool = AtomicBool::new(false);
 
-extern "C" fn note(_: c_int) {
+extern "C" fn note(number: c_int) {
     INTERRUPTED.store(true, Ordering::Relaxed);
+    // SAFETY: this may be called in a handler.
+    unsafe { signal(number, SIG_DFL) };
 }
 
-/// From now on an interrupt or a request to end is noted, and ends nothing.
+/// From now on an interrupt or a request to terminate is noted, and ends
+/// nothing. A second one ends the process, whatever it waits for.
 pub fn catch_interrupts() {
     for number in [SIGINT, SIGTERM] {
-        // SAFETY: the handler does nothing but store to an atomic.
-        unsafe { signal(number, note) };
+        // SAFETY: the handler does only what a handler may do.
+        unsafe { signal(number, note as *const () as usize) };
     }
 }
 

@@ -1,7 +1,7 @@
 //! `bsm follow`: what is there, then what comes.
 
 use super::Subcommand;
-use crate::args::{read, Halt, Values};
+use crate::args::{read, Given, Halt};
 use crate::choice::{Choice, HELP};
 use crate::followed::{Followed, News};
 use crate::form::Form;
@@ -26,7 +26,8 @@ usage: bsm follow [--list | --json] [--interval SECONDS] [OPTION..] [FILE]
 
 Prints FILE, or standard input for - or without a FILE, and goes on with what is written
 to it, until it is interrupted. An item that is not whole yet is waited for. Ends with
-status 4 where the file shrinks, is written over, replaced or removed.
+status 1 at any other refusal, and with 4 where the file shrinks, is written over,
+replaced or removed.
   --list         lines as list has them; the last one when it ends
   --json         lines as print --json has them
   --interval S   looks for more every S seconds, 0.1 without it
@@ -41,12 +42,12 @@ fn run(words: Vec<OsString>) -> Result<Status, Halt> {
     let mut choice = Choice::default();
     let mut form = Form::Text;
     let mut interval = Duration::from_millis(100);
-    let files = read(words, |option, values| {
+    let files = read(words, |option, given| {
         match option {
             "--list" => form = Form::Listing,
             "--json" => form = Form::Json,
-            "--interval" => interval = seconds(values)?,
-            _ => return choice.take(option, values),
+            "--interval" => interval = seconds(given)?,
+            _ => return choice.take(option, given),
         }
         Ok(true)
     })?;
@@ -55,7 +56,6 @@ fn run(words: Vec<OsString>) -> Result<Status, Halt> {
         [name] => name,
         _ => return Err(Halt::Usage("one FILE can be followed at a time".into())),
     };
-    catch_interrupts();
     let followed = match Followed::open(name) {
         Ok(followed) => followed,
         Err(error) => {
@@ -63,6 +63,7 @@ fn run(words: Vec<OsString>) -> Result<Status, Halt> {
             return Ok(Status::Failed);
         }
     };
+    catch_interrupts();
     let mut follow = Follow {
         name,
         view: View { choice, form },
@@ -76,8 +77,8 @@ fn run(words: Vec<OsString>) -> Result<Status, Halt> {
 }
 
 /// A time to wait, of at least a millisecond.
-fn seconds(values: &mut Values<'_>) -> Result<Duration, String> {
-    let text = values.one()?;
+fn seconds(given: &mut Given<'_>) -> Result<Duration, String> {
+    let text = given.value()?;
     let seconds = text.parse().ok();
     seconds
         .and_then(|seconds| Duration::try_from_secs_f64(seconds).ok())

@@ -34,7 +34,7 @@ The last line speaks of the whole trail, whatever was chosen.
 
 fn run(words: Vec<OsString>) -> Result<Status, Halt> {
     let mut choice = Choice::default();
-    let files = read(words, |option, values| choice.take(option, values))?;
+    let files = read(words, |option, given| choice.take(option, given))?;
     let form = Form::Listing;
     show(&files, &View { choice, form })
 }

@@ -21,4 +21,4 @@ pub struct Subcommand {
 }
 
 /// All of them, in the order of the help.
-pub const SUBCOMMANDS: [Subcommand; 3] = [list::LIST, print::PRINT, follow::FOLLOW];
+pub static SUBCOMMANDS: [Subcommand; 3] = [list::LIST, print::PRINT, follow::FOLLOW];

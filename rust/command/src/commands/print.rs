@@ -31,10 +31,10 @@ ASCII in them is escaped. Times are UTC.
 fn run(words: Vec<OsString>) -> Result<Status, Halt> {
     let mut choice = Choice::default();
     let mut form = Form::Text;
-    let files = read(words, |option, values| {
+    let files = read(words, |option, given| {
         match option {
             "--json" => form = Form::Json,
-            _ => return choice.take(option, values),
+            _ => return choice.take(option, given),
         }
         Ok(true)
     })?;

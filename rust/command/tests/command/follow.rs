@@ -5,6 +5,7 @@ use crate::trails::*;
 use generator::*;
 use std::fs::{self, File};
 use std::io::{Read, Write};
+use std::os::unix::process::ExitStatusExt;
 use std::path::{Path, PathBuf};
 use std::process::{Child, ChildStdin, Command, Stdio};
 use std::sync::{Arc, Mutex};
@@ -69,17 +70,6 @@ impl Following {
         }
     }
 
-    fn signal(&self, name: &str) {
-        let mut kill = Command::new("/bin/sh");
-        kill.args([
-            "-c",
-            "kill -s \"$0\" \"$1\"",
-            name,
-            &self.child.id().to_string(),
-        ]);
-        assert!(kill.status().expect("a shell").success());
-    }
-
     fn ended(mut self) -> Ended {
         let start = Instant::now();
         let status = loop {
@@ -106,11 +96,18 @@ impl Following {
 
     /// Interrupts it, and sees that it has written the listing of a trail.
     fn interrupted_after(self, trail: &[u8]) {
-        self.signal("INT");
+        signal(&self.child, "INT");
         let ended = self.ended();
         assert_eq!(text(&ended.stdout), text(&reference::listing(trail)));
         assert_eq!(ended.status, status_of(trail), "{}", ended.stderr);
     }
+}
+
+/// Sends a signal to a process that may have ended.
+fn signal(child: &Child, name: &str) {
+    let mut shell = Command::new("/bin/sh");
+    shell.args(["-c", &format!("kill -s {name} {}", child.id())]);
+    shell.stderr(Stdio::null()).status().expect("a shell");
 }
 
 /// A listing without its last line.
@@ -218,7 +215,7 @@ fn other_forms() {
         append(&path, &trail[..100]);
         append(&path, &trail[100..]);
         following.wait_for(text(&whole));
-        following.signal("TERM");
+        signal(&following.child, "TERM");
         let ended = following.ended();
         assert_eq!((ended.status, &ended.stderr[..]), (0, ""));
         assert_eq!(ended.stdout, whole);
@@ -323,7 +320,7 @@ fn standard_input() {
         stdin.write_all(&trail[..7]).expect("it reads");
         let trail = [&trail[..], &trail[..7]].concat();
         if interrupt {
-            following.signal("INT");
+            signal(&following.child, "INT");
         } else {
             drop(stdin);
         }
@@ -335,6 +332,29 @@ fn standard_input() {
         assert!(whole || interrupt);
         assert!(ended.status == 3 || (interrupt && ended.status == 0));
     }
+}
+
+/// Also while nobody reads what it writes.
+#[test]
+fn a_second_interrupt_ends_it_at_once() {
+    let scratch = Scratch::new();
+    let path = scratch.file("trail", &tokens_trail().repeat(1_000));
+    let mut command = bsm(["follow"]);
+    command
+        .arg(&path)
+        .stdin(Stdio::null())
+        .stdout(Stdio::piped());
+    let mut child = command.spawn().expect("it starts");
+    let mut stdout = child.stdout.take().expect("a pipe");
+    stdout.read_exact(&mut [0; 1]).expect("it writes");
+    let start = Instant::now();
+    while child.try_wait().expect("a child").is_none() {
+        assert!(start.elapsed() < PATIENCE, "it does not end");
+        signal(&child, "INT");
+        sleep(Duration::from_millis(5));
+    }
+    let status = child.wait().expect("it has ended");
+    assert_eq!(status.signal(), Some(2), "{status}");
 }
 
 /// Standard input that is a file, read on from where it stands.
