@@ -4,7 +4,7 @@ use crate::choice::Choice;
 use crate::form::Form;
 use crate::output::{say, title};
 use crate::status::Status;
-use bsm::{tokens, Item, Reader, Reason, Refusal, Step, Token};
+use bsm::{tokens, Item, Items, Reason, Refusal, State, Token};
 use std::ffi::OsStr;
 use std::io::{self, Write};
 
@@ -18,35 +18,30 @@ pub struct View {
 }
 
 impl View {
-    /// Writes the chosen items from the reader's place on, and answers the
-    /// refusal at which it stopped, or nothing at the trail's end.
+    /// Writes the chosen items of the trail with this name from a state on.
+    /// The state moves to the first item that is not accepted; answered is
+    /// its refusal, or nothing at the trail's end.
     pub fn write_items(
         &self,
         out: &mut impl Write,
         name: &OsStr,
         trail: &[u8],
-        reader: &mut Reader,
+        state: &mut State,
     ) -> io::Result<Option<Refusal>> {
-        loop {
-            match reader.next(trail) {
-                Step::Item { place, item } => {
-                    if self.choice.takes(&item) {
-                        let name = name.as_encoded_bytes();
-                        self.form.write_item(out, name, trail, place, &item)?;
-                    }
+        let mut items = Items::new(trail, *state);
+        let mut stop = None;
+        for item in items.by_ref() {
+            match item {
+                Ok((place, item)) if self.choice.takes(&item) => {
+                    let name = name.as_encoded_bytes();
+                    self.form.write_item(out, name, trail, place, &item)?;
                 }
-                Step::End => return Ok(None),
-                Step::Short { place, need } => {
-                    let reason = Reason::Short;
-                    return Ok(Some(Refusal {
-                        reason,
-                        place,
-                        need,
-                    }));
-                }
-                Step::Refused(refusal) => return Ok(Some(refusal)),
+                Ok(_) => {}
+                Err(refusal) => stop = Some(refusal),
             }
         }
+        *state = items.state();
+        Ok(stop)
     }
 }
 

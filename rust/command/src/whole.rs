@@ -5,7 +5,7 @@ use crate::form::Form;
 use crate::output::{output, say_unread, title, Output};
 use crate::reading::{say_stop, View};
 use crate::status::Status;
-use bsm::Reader;
+use bsm::State;
 use std::ffi::OsStr;
 use std::fs;
 use std::io::{self, stdin, Read, Write};
@@ -37,10 +37,10 @@ pub fn show(files: &Files, view: &View) -> Result<Status, Halt> {
 
 /// Shows one trail.
 fn show_one(out: &mut Output, name: &OsStr, trail: &[u8], view: &View) -> io::Result<Status> {
-    let mut reader = Reader::new();
+    let mut state = State::default();
     view.form.write_first(out)?;
-    let stop = view.write_items(out, name, trail, &mut reader)?;
-    view.form.write_last(out, trail, reader.state())?;
+    let stop = view.write_items(out, name, trail, &mut state)?;
+    view.form.write_last(out, trail, state)?;
     // Before what is said of it on standard error.
     out.flush()?;
     Ok(say_stop(name, trail, stop))

@@ -9,7 +9,7 @@ use crate::output::{output, say, say_unread, title, Output};
 use crate::reading::{say_stop, View};
 use crate::status::Status;
 use crate::system::{catch_interrupts, interrupted, wait, Woken};
-use bsm::{Reader, Reason, Refusal};
+use bsm::{Reason, Refusal, State};
 use std::ffi::{OsStr, OsString};
 use std::io::{self, ErrorKind, Write};
 use std::mem::take;
@@ -70,7 +70,7 @@ fn run(words: Vec<OsString>) -> Result<Status, Halt> {
         interval,
         out: output()?,
         followed,
-        reader: Reader::new(),
+        state: State::default(),
         stop: None,
     };
     Ok(follow.run()?.max(files.status))
@@ -93,8 +93,9 @@ struct Follow<'a> {
     interval: Duration,
     out: Output,
     followed: Followed,
-    reader: Reader,
-    /// Why the reader does not go on, for now or for good.
+    /// Where the reading stands.
+    state: State,
+    /// Why it does not go on, for now or for good; nothing at the end.
     stop: Option<Refusal>,
 }
 
@@ -131,7 +132,7 @@ impl Follow<'_> {
     /// Writes the items that have become whole.
     fn write_more(&mut self) -> io::Result<()> {
         let (view, trail) = (&self.view, self.followed.trail());
-        self.stop = view.write_items(&mut self.out, self.name, trail, &mut self.reader)?;
+        self.stop = view.write_items(&mut self.out, self.name, trail, &mut self.state)?;
         Ok(())
     }
 
@@ -156,8 +157,8 @@ impl Follow<'_> {
     /// Writes what stands behind all items, and says how the trail ended.
     fn finish(&mut self) -> io::Result<Status> {
         let trail = self.followed.trail();
-        let state = self.reader.state();
-        self.view.form.write_last(&mut self.out, trail, state)?;
+        let form = self.view.form;
+        form.write_last(&mut self.out, trail, self.state)?;
         self.out.flush()?;
         Ok(say_stop(self.name, trail, self.stop))
     }

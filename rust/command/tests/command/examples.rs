@@ -7,14 +7,19 @@ use std::fs;
 use std::path::{Path, PathBuf};
 use std::process::Command;
 
-/// The README's line that links the archive, with another place for the
-/// program.
-fn gcc_line(program: &Path) -> String {
+/// What stands behind these words in a line of the README.
+fn readme_line(start: &str) -> String {
     let readme = fs::read_to_string(root().join("README.md")).expect("a README");
     let mut lines = readme
         .lines()
-        .filter_map(|line| line.trim().strip_prefix("gcc "));
-    let line = lines.next().expect("a line that links the archive");
+        .filter_map(|line| line.trim().strip_prefix(start));
+    lines.next().expect("such a line").to_string()
+}
+
+/// The README's line that links the archive, with another place for the
+/// program.
+fn gcc_line(program: &Path) -> String {
+    let line = readme_line("gcc ");
     let (rest, _) = line
         .split_once(" -o ")
         .expect("the program's name at its end");
@@ -93,4 +98,37 @@ fn both_find_the_session() {
         assert_eq!(short.status, 1);
         assert_eq!(run("seven", &trail).status, 2);
     }
+}
+
+/// A package of its own that has the README's dependency.
+#[test]
+fn the_dependency_by_path() {
+    let scratch = Scratch::new();
+    let line = readme_line("bsm = { path = \"");
+    let (_, end) = line.split_once("/rust/bsm\"").expect("a path to the crate");
+    let path = root().join("rust/bsm");
+    let manifest = format!(
+        "[package]\nname = \"user\"\nversion = \"0.1.0\"\nedition = \"2021\"\n\
+         [dependencies]\nbsm = {{ path = \"{}\"{end}\n",
+        path.display()
+    );
+    scratch.file("Cargo.toml", manifest.as_bytes());
+    fs::create_dir(scratch.path().join("src")).expect("a new folder");
+    let source = fs::read(path.join("examples/find_session.rs")).expect("the example");
+    scratch.file("src/main.rs", &source);
+    let mut cargo = Command::new(env!("CARGO"));
+    cargo.args([
+        "run",
+        "--quiet",
+        "--offline",
+        "--target-dir",
+        "target",
+        "--",
+        "7",
+    ]);
+    cargo.current_dir(scratch.path());
+    let trail = record(&header(1, 5), &[Token::Subject32(party(1, 1))]);
+    let found = fed(cargo, &trail);
+    assert_eq!(text(&found.stdout), "0\tevent 1\t5.000000000\tuser 1\n");
+    assert_eq!((found.status, &found.stderr[..]), (0, ""));
 }
