@@ -34,23 +34,19 @@ static int is_party(const bsm_token *t)
 /* The body's first subject or process token of the session; its kind is BSM_NO_TOKEN where there is none. */
 static bsm_token find_party(const uint8_t *body, size_t length, uint64_t session)
 {
-    bsm_token t = bsm_token_at(body, length, 0);
-    for (size_t place = 0; t.kind == BSM_TOKEN; t = bsm_token_at(body, length, place)) {
+    bsm_token t;
+    for (size_t place = 0; (t = bsm_token_at(body, length, place)).kind == BSM_TOKEN; place += t.size)
         if (is_party(&t) && t.values[BSM_PARTY_SESSION] == session)
             break;
-        place += t.size;
-    }
     return t;
 }
 
 static void print_texts(const uint8_t *body, size_t length)
 {
-    bsm_token t = bsm_token_at(body, length, 0);
-    for (size_t place = 0; t.kind == BSM_TOKEN; t = bsm_token_at(body, length, place)) {
+    bsm_token t;
+    for (size_t place = 0; (t = bsm_token_at(body, length, place)).kind == BSM_TOKEN; place += t.size)
         if (t.token == BSM_ID_PATH || t.token == BSM_ID_TEXT)
             print_text(body + t.start, t.length);
-        place += t.size;
-    }
 }
 
 static void print_record(const uint8_t *trail, size_t place, const bsm_item *record, uint64_t session)
@@ -87,34 +83,39 @@ static uint8_t *read_all(size_t *length)
     return bytes;
 }
 
-int main(int count, char **words)
+/* Prints the records of the session, and answers the end or the refusal at which the reading stopped. */
+static bsm_item find(const uint8_t *trail, size_t length, uint64_t session)
 {
-    char *end;
-    if (count != 2 || !isdigit((unsigned char)words[1][0])) {
-        fprintf(stderr, "usage: find_session SESSION < TRAIL\n");
-        return 2;
-    }
-    uint64_t session = strtoull(words[1], &end, 10);
-    size_t length;
-    uint8_t *trail = read_all(&length);
-    if (*end || !trail) {
-        fprintf(stderr, "find_session: %s\n", trail ? "not a session number" : "standard input cannot be read");
-        free(trail);
-        return 2;
-    }
     bsm_step s = {.place = 0};
     for (;;) {
         size_t place = s.place;
-        s = bsm_next(trail, length, s.place, s.records, s.files);
+        s = bsm_next(trail, length, place, s.records, s.files);
         if (s.item.kind == BSM_RECORD)
             print_record(trail, place, &s.item, session);
         else if (s.item.kind != BSM_FILE)
-            break;
+            return s.item;
     }
+}
+
+int main(int count, char **words)
+{
+    char *end = NULL;
+    uint64_t session = count == 2 && isdigit((unsigned char)words[1][0]) ? strtoull(words[1], &end, 10) : 0;
+    if (!end || *end) {
+        fprintf(stderr, "usage: find_session SESSION < TRAIL\n");
+        return 2;
+    }
+    size_t length;
+    uint8_t *trail = read_all(&length);
+    if (!trail) {
+        fprintf(stderr, "find_session: standard input cannot be read\n");
+        return 2;
+    }
+    bsm_item stop = find(trail, length, session);
     free(trail);
-    if (s.item.kind == BSM_END)
+    if (stop.kind == BSM_END)
         return 0;
-    fprintf(stderr, "find_session: refusal %" PRIu64 ", place %" PRIu64 ", need %" PRIu64 "%s\n", s.item.number, s.item.place,
-        s.item.need, s.item.number == BSM_REFUSAL_SHORT ? ": still being written" : "");
+    fprintf(stderr, "find_session: refusal %" PRIu64 ", place %" PRIu64 ", need %" PRIu64 "%s\n", stop.number, stop.place,
+        stop.need, stop.number == BSM_REFUSAL_SHORT ? ": still being written" : "");
     return 1;
 }

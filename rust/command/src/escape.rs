@@ -5,7 +5,7 @@ use std::ffi::OsStr;
 use std::io::{self, Write};
 use std::os::unix::ffi::OsStrExt;
 
-/// Writes bytes between quotes, as C and Python write them: `\"`, `\\`,
+/// Writes bytes between quotes, as Python writes them: `\"`, `\\`,
 /// `\n`, `\r`, `\t`, and `\xHH` for every other byte that is not printable
 /// ASCII.
 pub fn write_quoted(out: &mut impl Write, bytes: &[u8]) -> io::Result<()> {

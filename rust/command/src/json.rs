@@ -6,7 +6,7 @@ use crate::fields::{
     item_fields, item_name, moment_fields, token_fields, token_name, Field, Value,
 };
 use crate::reading::tokens_of;
-use crate::text::write_list;
+use crate::write::{write_list, write_number};
 use bsm::{Item, Token};
 use std::io::{self, Write};
 use std::net::Ipv4Addr;
@@ -39,7 +39,9 @@ fn write_token(out: &mut impl Write, token: &Token<'_>) -> io::Result<()> {
 /// Writes fields behind another one of the same object.
 fn write_fields(out: &mut impl Write, fields: &[Field<'_>]) -> io::Result<()> {
     for (name, value) in fields {
-        write!(out, ",\"{name}\":")?;
+        for part in [",\"", name, "\":"] {
+            out.write_all(part.as_bytes())?;
+        }
         write_value(out, value)?;
     }
     Ok(())
@@ -47,13 +49,15 @@ fn write_fields(out: &mut impl Write, fields: &[Field<'_>]) -> io::Result<()> {
 
 fn write_value(out: &mut impl Write, value: &Value<'_>) -> io::Result<()> {
     match *value {
-        Value::Number(number) => write!(out, "{number}"),
+        Value::Number(number) => write_number(out, number),
         Value::Word(word) => write!(out, "\"{word}\""),
         Value::Time(time) => write!(out, "\"{time}\""),
         Value::Address(address) => write!(out, "\"{}\"", Ipv4Addr::from(address)),
         Value::Text(text) => write_text(out, text),
         Value::Bytes(bytes) => write_bytes(out, bytes),
-        Value::Groups(groups) => write_list(out, groups, |out, group| write!(out, "{group}")),
+        Value::Groups(groups) => {
+            write_list(out, groups, |out, group| write_number(out, group.into()))
+        }
         Value::Strings(strings) => write_list(out, strings.iter(), write_text),
     }
 }

@@ -16,6 +16,7 @@ mod system;
 mod text;
 mod time;
 mod whole;
+mod write;
 
 use args::Halt;
 use commands::{Subcommand, SUBCOMMANDS};

@@ -4,6 +4,7 @@
 use crate::escape::{write_hex, write_quoted};
 use crate::fields::{item_fields, item_name, token_fields, token_name, Field, Value};
 use crate::reading::tokens_of;
+use crate::write::{write_list, write_number};
 use bsm::Item;
 use std::io::{self, Write};
 use std::net::Ipv4Addr;
@@ -13,7 +14,8 @@ pub fn write_item(out: &mut impl Write, place: usize, item: &Item<'_>) -> io::Re
     out.write_all(item_name(item).as_bytes())?;
     write_fields(out, &item_fields(place, item))?;
     for token in tokens_of(item) {
-        write!(out, "    {}", token_name(&token))?;
+        out.write_all(b"    ")?;
+        out.write_all(token_name(&token).as_bytes())?;
         write_fields(out, &token_fields(&token))?;
     }
     Ok(())
@@ -22,7 +24,9 @@ pub fn write_item(out: &mut impl Write, place: usize, item: &Item<'_>) -> io::Re
 /// Writes fields and ends the line.
 fn write_fields(out: &mut impl Write, fields: &[Field<'_>]) -> io::Result<()> {
     for (name, value) in fields {
-        write!(out, " {name}=")?;
+        for part in [" ", name, "="] {
+            out.write_all(part.as_bytes())?;
+        }
         write_value(out, value)?;
     }
     out.write_all(b"\n")
@@ -30,29 +34,15 @@ fn write_fields(out: &mut impl Write, fields: &[Field<'_>]) -> io::Result<()> {
 
 fn write_value(out: &mut impl Write, value: &Value<'_>) -> io::Result<()> {
     match *value {
-        Value::Number(number) => write!(out, "{number}"),
+        Value::Number(number) => write_number(out, number),
         Value::Word(word) => out.write_all(word.as_bytes()),
         Value::Time(time) => write!(out, "{time}"),
         Value::Address(address) => write!(out, "{}", Ipv4Addr::from(address)),
         Value::Text(text) => write_quoted(out, text),
         Value::Bytes(bytes) => write_hex(out, bytes),
-        Value::Groups(groups) => write_list(out, groups, |out, group| write!(out, "{group}")),
+        Value::Groups(groups) => {
+            write_list(out, groups, |out, group| write_number(out, group.into()))
+        }
         Value::Strings(strings) => write_list(out, strings.iter(), write_quoted),
     }
-}
-
-/// Writes several things between brackets, with commas between them.
-pub fn write_list<W: Write, T>(
-    out: &mut W,
-    things: impl IntoIterator<Item = T>,
-    mut write_one: impl FnMut(&mut W, T) -> io::Result<()>,
-) -> io::Result<()> {
-    out.write_all(b"[")?;
-    for (i, thing) in things.into_iter().enumerate() {
-        if i > 0 {
-            out.write_all(b",")?;
-        }
-        write_one(out, thing)?;
-    }
-    out.write_all(b"]")
 }
