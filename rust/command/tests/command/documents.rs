@@ -33,10 +33,10 @@ fn place() -> Scratch {
 /// What a line of a shell writes, standard error included, and its status.
 fn replayed(scratch: &Scratch, line: &str) -> String {
     let (mut reader, writer) = pipe().expect("a pipe");
-    let mut shell = Command::new("/bin/bash");
+    let mut shell = Command::new("timeout");
     let path = env::var("PATH").expect("a path");
     shell
-        .args(["-c", line])
+        .args(["60", "/bin/bash", "-c", line])
         .current_dir(scratch.path())
         .env("PATH", format!("{}:{path}", scratch.path().display()))
         .stdin(Stdio::null())

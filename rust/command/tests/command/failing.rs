@@ -27,13 +27,7 @@ fn to_full_disk(mut command: Command, input: &[u8]) -> Ended {
     let input = File::open(scratch.file("input", input)).expect("it was written");
     command.stdin(input);
     command.stdout(full.expect("a device that is always full"));
-    command.stderr(Stdio::piped());
-    let output = command.output().expect("it starts");
-    Ended {
-        status: output.status.code().expect("no signal"),
-        stdout: output.stdout,
-        stderr: text(&output.stderr).to_string(),
-    }
+    outcome(started(command))
 }
 
 #[test]
@@ -72,16 +66,12 @@ fn closed_pipe() {
         for seen in [0, 1_000] {
             let (mut reader, writer) = pipe().expect("a pipe");
             let mut command = bsm(words);
-            command.arg(&name).stdin(Stdio::null());
-            command.stdout(writer).stderr(Stdio::piped());
-            let child = command.spawn().expect("it starts");
-            // The command has a descriptor of the pipe's other end too.
-            drop(command);
+            command.arg(&name).stdin(Stdio::null()).stdout(writer);
+            let child = started(command);
             reader.read_exact(&mut vec![0; seen]).expect("it writes");
             drop(reader);
-            let output = child.wait_with_output().expect("it ends");
-            assert_eq!(text(&output.stderr), "", "{words:?}");
-            assert_eq!(output.status.code(), Some(141), "{words:?}");
+            let ended = outcome(child);
+            assert_eq!((ended.status, &ended.stderr[..]), (141, ""), "{words:?}");
         }
     }
 }
@@ -94,13 +84,10 @@ fn closed_pipe_of_a_waiting_follow() {
     let name = scratch.file("trail", &trail[..trail.len() - 1]);
     let (mut reader, writer) = pipe().expect("a pipe");
     let mut command = bsm(["follow", "--list"]);
-    command.arg(&name).stdin(Stdio::null());
-    command.stdout(writer).stderr(Stdio::piped());
-    let child = command.spawn().expect("it starts");
-    drop(command);
+    command.arg(&name).stdin(Stdio::null()).stdout(writer);
+    let child = started(command);
     reader.read_exact(&mut [0; 11]).expect("it writes");
     drop(reader);
-    let output = child.wait_with_output().expect("it ends");
-    assert_eq!(text(&output.stderr), "");
-    assert_eq!(output.status.code(), Some(141));
+    let ended = outcome(child);
+    assert_eq!((ended.status, &ended.stderr[..]), (141, ""));
 }

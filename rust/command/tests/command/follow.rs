@@ -12,9 +12,6 @@ use std::sync::{Arc, Mutex};
 use std::thread::{self, sleep, JoinHandle};
 use std::time::{Duration, Instant};
 
-/// How long anything may take here.
-const PATIENCE: Duration = Duration::from_secs(30);
-
 /// A command that follows, and what it has written so far.
 struct Following {
     child: Child,
@@ -24,8 +21,8 @@ struct Following {
 
 impl Following {
     fn start(mut command: Command) -> Following {
-        command.stdout(Stdio::piped()).stderr(Stdio::piped());
-        let mut child = command.spawn().expect("it starts");
+        command.stdout(Stdio::piped());
+        let mut child = started(command);
         let mut stdout = child.stdout.take().expect("a pipe");
         let seen = Arc::new(Mutex::new(Vec::new()));
         let shared = Arc::clone(&seen);
@@ -70,28 +67,11 @@ impl Following {
         }
     }
 
-    fn ended(mut self) -> Ended {
-        let start = Instant::now();
-        let status = loop {
-            if let Some(status) = self.child.try_wait().expect("a child") {
-                break status;
-            }
-            if start.elapsed() > PATIENCE {
-                self.child.kill().expect("a child can be ended");
-                panic!("it does not end");
-            }
-            sleep(Duration::from_millis(1));
-        };
+    fn ended(self) -> Ended {
+        let ended = outcome(self.child);
         self.reading.join().expect("it was read");
-        let mut stderr = String::new();
-        let mut pipe = self.child.stderr.take().expect("a pipe");
-        pipe.read_to_string(&mut stderr).expect("it is text");
         let stdout = self.seen.lock().unwrap().clone();
-        Ended {
-            status: status.code().expect("no signal ended it"),
-            stdout,
-            stderr,
-        }
+        Ended { stdout, ..ended }
     }
 
     /// Interrupts it, and sees that it has written the listing of a trail.
@@ -223,7 +203,7 @@ fn other_forms() {
 }
 
 /// Starts it on a trail of two items, all of which it has listed.
-fn started(scratch: &Scratch) -> (Following, PathBuf, Vec<u8>) {
+fn followed(scratch: &Scratch) -> (Following, PathBuf, Vec<u8>) {
     let trail = tokens_trail();
     let path = scratch.file("trail", &trail);
     let following = Following::file(&["--list"], &path);
@@ -244,7 +224,7 @@ fn changed(following: Following, path: &Path, what: &str, listed: &str) {
 #[test]
 fn a_file_that_shrinks() {
     let scratch = Scratch::new();
-    let (following, path, trail) = started(&scratch);
+    let (following, path, trail) = followed(&scratch);
     let file = File::options()
         .write(true)
         .open(&path)
@@ -263,7 +243,7 @@ fn a_file_that_is_written_over() {
     let scratch = Scratch::new();
     // As long as it was, and longer.
     for more in [0, 50] {
-        let (following, path, trail) = started(&scratch);
+        let (following, path, trail) = followed(&scratch);
         sleep(Duration::from_millis(20));
         let other = vec![0x11; trail.len() + more];
         let file = File::options().write(true).open(&path);
@@ -284,7 +264,7 @@ fn a_file_that_is_written_over() {
 fn a_file_that_is_replaced_or_removed() {
     let scratch = Scratch::new();
     for replaced in [true, false] {
-        let (following, path, mut trail) = started(&scratch);
+        let (following, path, mut trail) = followed(&scratch);
         let last = record(&header(1, 1), &[]);
         append(&path, &last);
         trail.extend(last);
@@ -340,20 +320,17 @@ fn a_second_interrupt_ends_it_at_once() {
     let scratch = Scratch::new();
     let path = scratch.file("trail", &tokens_trail().repeat(1_000));
     let mut command = bsm(["follow"]);
-    command
-        .arg(&path)
-        .stdin(Stdio::null())
-        .stdout(Stdio::piped());
-    let mut child = command.spawn().expect("it starts");
+    command.arg(&path).stdin(Stdio::null());
+    command.stdout(Stdio::piped());
+    let mut child = started(command);
     let mut stdout = child.stdout.take().expect("a pipe");
     stdout.read_exact(&mut [0; 1]).expect("it writes");
     let start = Instant::now();
-    while child.try_wait().expect("a child").is_none() {
-        assert!(start.elapsed() < PATIENCE, "it does not end");
+    while child.try_wait().expect("a child").is_none() && start.elapsed() < PATIENCE {
         signal(&child, "INT");
         sleep(Duration::from_millis(5));
     }
-    let status = child.wait().expect("it has ended");
+    let status = status_of_child(&mut child);
     assert_eq!(status.signal(), Some(2), "{status}");
 }
 

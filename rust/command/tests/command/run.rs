@@ -3,11 +3,12 @@
 use std::env;
 use std::ffi::OsStr;
 use std::fs;
-use std::io::Write;
+use std::io::{Read, Write};
 use std::path::{Path, PathBuf};
-use std::process::{self, Command, Output, Stdio};
+use std::process::{self, Child, Command, ExitStatus, Stdio};
 use std::sync::atomic::{AtomicUsize, Ordering};
-use std::thread;
+use std::thread::{self, sleep, JoinHandle};
+use std::time::{Duration, Instant};
 
 /// The root of the repository.
 pub fn root() -> PathBuf {
@@ -69,6 +70,9 @@ pub fn bsm<S: AsRef<OsStr>>(words: impl IntoIterator<Item = S>) -> Command {
     command
 }
 
+/// How long anything may take.
+pub const PATIENCE: Duration = Duration::from_secs(60);
+
 /// How a command ended.
 #[derive(Debug, PartialEq, Eq)]
 pub struct Ended {
@@ -78,32 +82,63 @@ pub struct Ended {
 }
 
 /// Runs a command on an empty standard input.
-pub fn ended(mut command: Command) -> Ended {
-    command.stdin(Stdio::null());
-    outcome(command.output().expect("it starts"))
+pub fn ended(command: Command) -> Ended {
+    fed(command, b"")
 }
 
 /// Runs a command on these bytes.
 pub fn fed(mut command: Command, input: &[u8]) -> Ended {
-    command
-        .stdin(Stdio::piped())
-        .stdout(Stdio::piped())
-        .stderr(Stdio::piped());
-    let mut child = command.spawn().expect("it starts");
+    command.stdin(Stdio::piped()).stdout(Stdio::piped());
+    let mut child = started(command);
     let mut stdin = child.stdin.take().expect("a pipe");
-    let output = thread::scope(|scope| {
+    thread::scope(|scope| {
         // What does not want its input may end before it is written.
         scope.spawn(move || drop(stdin.write_all(input)));
-        child.wait_with_output().expect("it ends")
-    });
-    outcome(output)
+        outcome(child)
+    })
 }
 
-fn outcome(output: Output) -> Ended {
+/// Starts a command, whose standard error is read at its end.
+pub fn started(mut command: Command) -> Child {
+    command.stderr(Stdio::piped()).spawn().expect("it starts")
+}
+
+/// Waits until a command ends by itself. What it wrote to pipes is read.
+pub fn outcome(mut child: Child) -> Ended {
+    let stdout = read_all(child.stdout.take());
+    let stderr = read_all(child.stderr.take());
+    let status = status_of_child(&mut child).code();
+    let stderr = stderr.join().expect("it was read");
     Ended {
-        status: output.status.code().expect("no signal ended it"),
-        stdout: output.stdout,
-        stderr: String::from_utf8(output.stderr).expect("what is said is text"),
+        status: status.expect("no signal ended it"),
+        stdout: stdout.join().expect("it was read"),
+        stderr: String::from_utf8(stderr).expect("what is said is text"),
+    }
+}
+
+/// Reads a pipe to its end on a thread of its own.
+fn read_all(pipe: Option<impl Read + Send + 'static>) -> JoinHandle<Vec<u8>> {
+    thread::spawn(move || {
+        let mut bytes = Vec::new();
+        if let Some(mut pipe) = pipe {
+            pipe.read_to_end(&mut bytes).expect("a pipe can be read");
+        }
+        bytes
+    })
+}
+
+/// Waits for the end of a process, but not for ever.
+pub fn status_of_child(child: &mut Child) -> ExitStatus {
+    let start = Instant::now();
+    loop {
+        if let Some(status) = child.try_wait().expect("a child") {
+            return status;
+        }
+        if start.elapsed() > PATIENCE {
+            child.kill().expect("a child can be ended");
+            panic!("it does not end");
+        }
+        sleep(Duration::from_millis(1));
     }
 }
 
