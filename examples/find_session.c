@@ -4,12 +4,14 @@
  *
  *    find_session SESSION < TRAIL
  *
- * Exit status 0 where the trail was read to its end; 1 where it was refused or is still being written, which is said.
+ * Exit status 0 where the trail was read to its end; 1 where it was refused or is still being written, which is said; 2 for wrong
+ * usage, or where something cannot be read or written.
  */
-#include <ctype.h>
+#include <errno.h>
 #include <inttypes.h>
 #include <stdio.h>
 #include <stdlib.h>
+#include <string.h>
 
 #include "bsm.h"
 
@@ -97,22 +99,35 @@ static bsm_item find(const uint8_t *trail, size_t length, uint64_t session)
     }
 }
 
+/* A session's number; 0 is answered where the word is none. */
+static int read_session(const char *word, uint64_t *session)
+{
+    char *end;
+    *session = strtoull(word, &end, 10);
+    return *word >= '0' && *word <= '9' && *end == 0 && *session <= UINT32_MAX;
+}
+
+static int failed(void)
+{
+    fprintf(stderr, "find_session: %s\n", strerror(errno));
+    return 2;
+}
+
 int main(int count, char **words)
 {
-    char *end = NULL;
-    uint64_t session = count == 2 && isdigit((unsigned char)words[1][0]) ? strtoull(words[1], &end, 10) : 0;
-    if (!end || *end) {
+    uint64_t session;
+    if (count != 2 || !read_session(words[1], &session)) {
         fprintf(stderr, "usage: find_session SESSION < TRAIL\n");
         return 2;
     }
     size_t length;
     uint8_t *trail = read_all(&length);
-    if (!trail) {
-        fprintf(stderr, "find_session: standard input cannot be read\n");
-        return 2;
-    }
+    if (!trail)
+        return failed();
     bsm_item stop = find(trail, length, session);
     free(trail);
+    if (fflush(stdout) || ferror(stdout))
+        return failed();
     if (stop.kind == BSM_END)
         return 0;
     fprintf(stderr, "find_session: refusal %" PRIu64 ", place %" PRIu64 ", need %" PRIu64 "%s\n", stop.number, stop.place,

@@ -5,11 +5,12 @@
 //!     find_session SESSION < TRAIL
 //!
 //! Exit status 0 where the trail was read to its end; 1 where it was refused
-//! or is still being written, which is said.
+//! or is still being written, which is said; 2 for wrong usage, or where
+//! something cannot be read or written.
 
-use bsm::{tokens, Header, Items, Reason, State, Token};
+use bsm::{tokens, Header, Item, Items, Reason, Refusal, State, Token};
 use std::env;
-use std::io::{self, stdin, stdout, Read, Write};
+use std::io::{self, stdin, stdout, BufWriter, Read, Write};
 use std::process::ExitCode;
 
 /// The audit user and the session that a subject or process token names.
@@ -61,33 +62,60 @@ fn print_text(out: &mut impl Write, text: &[u8]) -> io::Result<()> {
     out.write_all(b"\n")
 }
 
-fn main() -> io::Result<ExitCode> {
-    let mut words = env::args().skip(1);
-    let session = words.next().and_then(|word| word.parse().ok());
-    let (Some(session), None) = (session, words.next()) else {
-        eprintln!("usage: find_session SESSION < TRAIL");
-        return Ok(ExitCode::from(2));
-    };
-    let mut trail = Vec::new();
-    stdin().read_to_end(&mut trail)?;
-    let mut out = stdout().lock();
-    for item in Items::new(&trail, State::default()) {
+/// Prints the records of the session, and answers the refusal at which the
+/// reading stopped, or nothing at the trail's end.
+fn find(trail: &[u8], session: u32) -> io::Result<Option<Refusal>> {
+    let mut out = BufWriter::new(stdout());
+    let mut stop = None;
+    for item in Items::new(trail, State::default()) {
         match item {
-            Ok((place, bsm::Item::Record { header, body, .. })) => {
+            Ok((place, Item::Record { header, body, .. })) => {
                 print_record(&mut out, place, &header, body, session)?;
             }
-            Ok(_) => {}
-            Err(refusal) => {
-                let waits = match refusal.reason {
-                    Reason::Short => ": still being written",
-                    _ => "",
-                };
-                let (number, place) = (refusal.reason.number(), refusal.place);
-                let need = refusal.need;
-                eprintln!("find_session: refusal {number}, place {place}, need {need}{waits}");
-                return Ok(ExitCode::FAILURE);
-            }
+            Ok((_, Item::File { .. })) => {}
+            Err(refusal) => stop = Some(refusal),
         }
     }
-    Ok(ExitCode::SUCCESS)
+    out.flush()?;
+    Ok(stop)
+}
+
+/// A session's number, if the only word is one.
+fn session() -> Option<u32> {
+    let mut words = env::args_os().skip(1);
+    let word = words.next()?.into_string().ok()?;
+    let digits = word.bytes().all(|byte| byte.is_ascii_digit());
+    (digits && words.next().is_none()).then(|| word.parse().ok())?
+}
+
+fn main() -> ExitCode {
+    let Some(session) = session() else {
+        eprintln!("usage: find_session SESSION < TRAIL");
+        return ExitCode::from(2);
+    };
+    let mut trail = Vec::new();
+    let found = stdin()
+        .read_to_end(&mut trail)
+        .and_then(|_| find(&trail, session));
+    match found {
+        Ok(None) => ExitCode::SUCCESS,
+        Ok(Some(refusal)) => {
+            let Refusal {
+                reason,
+                place,
+                need,
+            } = refusal;
+            let waits = match reason {
+                Reason::Short => ": still being written",
+                _ => "",
+            };
+            let number = reason.number();
+            eprintln!("find_session: refusal {number}, place {place}, need {need}{waits}");
+            ExitCode::FAILURE
+        }
+        Err(error) => {
+            eprintln!("find_session: {error}");
+            ExitCode::from(2)
+        }
+    }
 }

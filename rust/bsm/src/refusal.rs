@@ -69,13 +69,13 @@ impl fmt::Display for Reason {
         f.write_str(match self {
             Reason::Short => "short",
             Reason::Place => "place or totals out of range",
-            Reason::NotAnItem => "not an item",
+            Reason::NotAnItem => "no item begins with this byte",
             Reason::RecordLength => "record length out of bounds",
             Reason::Trailer => "no trailer with the record's length",
-            Reason::NotABodyToken => "not a body token",
+            Reason::NotABodyToken => "no body token begins with this byte",
             Reason::PastEnd => "token runs past the end of its body",
-            Reason::BadText => "bad text",
-            Reason::TimeRange => "time out of range",
+            Reason::BadText => "bad text, or too long a file name",
+            Reason::TimeRange => "microseconds or nanoseconds out of range",
             Reason::NoRoom => "destination too small",
             Reason::TooLarge => "value too large for its field",
         })

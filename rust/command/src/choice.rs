@@ -5,6 +5,7 @@ use crate::fields::time_of;
 use crate::reading::tokens_of;
 use crate::time::{Time, FORMS};
 use bsm::{Item, Party, Token};
+use std::fmt::Display;
 
 /// What must hold of an item so that it is shown: all of it.
 #[derive(Debug, Default)]
@@ -34,11 +35,11 @@ impl Choice {
     /// Takes an option if it is one of these.
     pub fn take(&mut self, option: &str, given: &mut Given<'_>) -> Result<bool, String> {
         match option {
-            "--event" => once(&mut self.event, option, number(option, &given.value()?)?)?,
-            "--session" => self.sessions.push(number(option, &given.value()?)?),
-            "--user" => self.users.push(number(option, &given.value()?)?),
-            "--since" => once(&mut self.since, option, time(option, &given.value()?)?)?,
-            "--until" => once(&mut self.until, option, time(option, &given.value()?)?)?,
+            "--event" => once(&mut self.event, option, number(option, given, u16::MAX)?)?,
+            "--session" => self.sessions.push(number(option, given, u32::MAX)?),
+            "--user" => self.users.push(number(option, given, u32::MAX)?),
+            "--since" => once(&mut self.since, option, time(option, given)?)?,
+            "--until" => once(&mut self.until, option, time(option, given)?)?,
             _ => return Ok(false),
         }
         Ok(true)
@@ -102,21 +103,25 @@ fn once<T>(slot: &mut Option<T>, option: &str, value: T) -> Result<(), String> {
     }
 }
 
-/// A number that fits its field, decimal or hexadecimal behind `0x`.
-fn number<T: TryFrom<u64>>(option: &str, text: &str) -> Result<T, String> {
+/// A number that its field can hold, decimal or hexadecimal behind `0x`.
+fn number<T>(option: &str, given: &mut Given<'_>, most: T) -> Result<T, String>
+where
+    T: TryFrom<u64> + Display,
+{
+    let text = given.value()?;
     let (digits, radix) = match text.strip_prefix("0x") {
         Some(digits) => (digits, 16),
-        None => (text, 10),
+        None => (&text[..], 10),
     };
-    let digit = |character: char| character.is_digit(radix);
-    let read = match digits.chars().all(digit) {
+    let read = match digits.chars().all(|digit| digit.is_digit(radix)) {
         true => u64::from_str_radix(digits, radix).ok(),
         false => None,
     };
     read.and_then(|number| T::try_from(number).ok())
-        .ok_or_else(|| format!("{option} {text}: not such a number"))
+        .ok_or_else(|| format!("{option} {text}: not a number from 0 to {most}"))
 }
 
-fn time(option: &str, text: &str) -> Result<Time, String> {
-    Time::parse(text).ok_or_else(|| format!("{option} {text}: not a time; write {FORMS}"))
+fn time(option: &str, given: &mut Given<'_>) -> Result<Time, String> {
+    let text = given.value()?;
+    Time::parse(&text).ok_or_else(|| format!("{option} {text}: not a time; write {FORMS}"))
 }

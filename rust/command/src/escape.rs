@@ -5,9 +5,8 @@ use std::ffi::OsStr;
 use std::io::{self, Write};
 use std::os::unix::ffi::OsStrExt;
 
-/// Writes bytes between quotes, as Python writes them: `\"`, `\\`,
-/// `\n`, `\r`, `\t`, and `\xHH` for every other byte that is not printable
-/// ASCII.
+/// Writes bytes between quotes, with `\"`, `\\`, `\n`, `\r` and `\t`, and
+/// `\xHH` for every other byte that is not printable ASCII.
 pub fn write_quoted(out: &mut impl Write, bytes: &[u8]) -> io::Result<()> {
     out.write_all(b"\"")?;
     let mut rest = bytes;
@@ -30,7 +29,7 @@ pub fn write_quoted(out: &mut impl Write, bytes: &[u8]) -> io::Result<()> {
 }
 
 /// Whether a byte stands for itself between quotes.
-pub const fn is_plain(byte: u8) -> bool {
+const fn is_plain(byte: u8) -> bool {
     matches!(byte, b' '..=b'~') && byte != b'"' && byte != b'\\'
 }
 
@@ -74,7 +73,7 @@ mod tests {
         String::from_utf8(out).expect("it is ASCII")
     }
 
-    /// The bytes that a quoted text stands for, read by C's rules.
+    /// The bytes that a quoted text stands for.
     fn unquoted(text: &str) -> Vec<u8> {
         let inner = text
             .strip_prefix('"')

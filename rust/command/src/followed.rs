@@ -151,8 +151,10 @@ impl Watched {
         Ok(match identity(path) {
             Ok(there) if there == identity_of(&self.file.metadata()?) => None,
             Ok(_) => Some("has been replaced by another file"),
-            Err(error) if error.kind() == ErrorKind::NotFound => Some("has been removed"),
-            Err(error) => return Err(error),
+            Err(error) => match error.kind() {
+                ErrorKind::NotFound | ErrorKind::NotADirectory => Some("has been removed"),
+                _ => return Err(error),
+            },
         })
     }
 }

@@ -8,6 +8,17 @@ use bsm::{tokens, Item, Items, Reason, Refusal, State, Token};
 use std::ffi::OsStr;
 use std::io::{self, Write};
 
+/// Where a reading stopped.
+#[derive(Clone, Copy, Debug, PartialEq, Eq)]
+pub enum Stop {
+    /// At the trail's end.
+    End,
+    /// At an item that is refused, or short.
+    Refused(Refusal),
+    /// Somewhere before: it was told to.
+    Told,
+}
+
 /// What is shown, and how.
 #[derive(Debug)]
 pub struct View {
@@ -18,28 +29,32 @@ pub struct View {
 }
 
 impl View {
-    /// Writes the chosen items of the trail with this name from a state on.
-    /// The state moves to the first item that is not accepted; answered is
-    /// its refusal, or nothing at the trail's end.
+    /// Writes the chosen items of the trail with this name, from a state on
+    /// and as long as `goes_on` says so. The state moves to the first item
+    /// that was not read.
     pub fn write_items(
         &self,
         out: &mut impl Write,
         name: &OsStr,
         trail: &[u8],
         state: &mut State,
-    ) -> io::Result<Option<Refusal>> {
+        goes_on: impl Fn() -> bool,
+    ) -> io::Result<Stop> {
         let mut items = Items::new(trail, *state);
-        let mut stop = None;
-        for item in items.by_ref() {
-            match item {
-                Ok((place, item)) if self.choice.takes(&item) => {
+        let stop = loop {
+            if !goes_on() {
+                break Stop::Told;
+            }
+            match items.next() {
+                None => break Stop::End,
+                Some(Err(refusal)) => break Stop::Refused(refusal),
+                Some(Ok((place, item))) if self.choice.takes(&item) => {
                     let name = name.as_encoded_bytes();
                     self.form.write_item(out, name, trail, place, &item)?;
                 }
-                Ok(_) => {}
-                Err(refusal) => stop = Some(refusal),
+                Some(Ok(_)) => {}
             }
-        }
+        };
         *state = items.state();
         Ok(stop)
     }
@@ -54,11 +69,13 @@ pub fn tokens_of<'a>(item: &Item<'a>) -> impl Iterator<Item = Token<'a>> {
     tokens(body).map(|token| token.expect("the body of an accepted record has no other tokens"))
 }
 
-/// Says a refusal in words, with its number, place and need, and answers the
-/// status that it comes to.
-pub fn say_stop(name: &OsStr, trail: &[u8], stop: Option<Refusal>) -> Status {
-    let Some(refusal) = stop else {
-        return Status::Ended;
+/// Says why a reading stopped, a refusal with its number, place and need,
+/// and answers the status that it comes to.
+pub fn say_stop(name: &OsStr, trail: &[u8], stop: Stop) -> Status {
+    let refusal = match stop {
+        Stop::End => return Status::Ended,
+        Stop::Told => return Status::Interrupted,
+        Stop::Refused(refusal) => refusal,
     };
     let Refusal {
         reason,
@@ -74,7 +91,7 @@ pub fn say_stop(name: &OsStr, trail: &[u8], stop: Option<Refusal>) -> Status {
     let there = trail.len() - place;
     say(format_args!(
         "{name}: short: {there} of at least {need} bytes of an item are there, \
-         it is still being written ({numbers})"
+         it is still being written or was cut off ({numbers})"
     ));
     Status::Short
 }

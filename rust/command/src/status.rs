@@ -16,6 +16,8 @@ pub enum Status {
     Changed,
     /// Wrong usage, or something that the system would not do.
     Failed,
+    /// An interrupt came before all that is there was shown.
+    Interrupted,
     /// Whoever read standard output has closed it.
     Closed,
 }
@@ -29,7 +31,8 @@ impl Status {
             Status::Failed => 2,
             Status::Short => 3,
             Status::Changed => 4,
-            // What a shell shows for a program that a closed pipe ended.
+            // What a shell shows for a program that a signal ended.
+            Status::Interrupted => 130,
             Status::Closed => 141,
         }
     }

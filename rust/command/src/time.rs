@@ -98,11 +98,7 @@ fn date_of(day: u64) -> (u64, u64, u64) {
 /// The seconds since 1970 of year, month, day, hour, minute and second, if
 /// there is such a time.
 fn seconds_of([year, month, day, hour, minute, second]: [u64; 6]) -> Option<u64> {
-    let good = (1970..=9999).contains(&year)
-        && (1..=12).contains(&month)
-        && hour < 24
-        && minute < 60
-        && second < 60;
+    let good = year >= 1970 && (1..=12).contains(&month) && hour < 24 && minute < 60 && second < 60;
     if !good {
         return None;
     }
@@ -114,37 +110,39 @@ fn seconds_of([year, month, day, hour, minute, second]: [u64; 6]) -> Option<u64>
     if in_year >= next {
         return None;
     }
-    let days = (1970..year).map(days_in).sum::<u64>() + in_year;
-    Some(days * DAY + hour * 3_600 + minute * 60 + second)
+    let cycles = (year - 1970) / CYCLE_YEARS;
+    let first = 1970 + cycles * CYCLE_YEARS;
+    let days = (first..year).map(days_in).sum::<u64>() + in_year;
+    let days = cycles.checked_mul(CYCLE_DAYS)?.checked_add(days)?;
+    let in_day = hour * 3_600 + minute * 60 + second;
+    days.checked_mul(DAY)?.checked_add(in_day)
 }
 
 /// `YYYY-MM-DD`, and behind a `T` or a space `HH:MM`, `HH:MM:SS` or that
-/// with a fraction.
+/// with a fraction. A year of more digits has a `+` before it.
 fn separated(text: &str) -> Option<([u64; 6], u64)> {
     let (date, clock) = match text.split_once(['T', ' ']) {
         Some((date, clock)) => (date, clock),
         None => (text, "00:00"),
     };
     let mut dates = date.splitn(3, '-');
+    let year = dates.next()?;
+    let year = match year.strip_prefix('+') {
+        Some(long) if long.len() > 4 => number(long)?,
+        Some(_) => return None,
+        None => digits(year, 4)?,
+    };
+    let (month, day) = (digits(dates.next()?, 2)?, digits(dates.next()?, 2)?);
     let (clock, nanoseconds) = with_fraction(clock)?;
     let mut clocks = clock.splitn(3, ':');
-    let hour = digits(clocks.next()?, 2)?;
-    let minute = digits(clocks.next()?, 2)?;
+    let (hour, minute) = (digits(clocks.next()?, 2)?, digits(clocks.next()?, 2)?);
     let second = match clocks.next() {
         Some(second) => digits(second, 2)?,
         // A fraction stands behind seconds only.
-        None if nanoseconds == 0 && !text.contains('.') => 0,
+        None if !text.contains('.') => 0,
         None => return None,
     };
-    let parts = [
-        digits(dates.next()?, 4)?,
-        digits(dates.next()?, 2)?,
-        digits(dates.next()?, 2)?,
-        hour,
-        minute,
-        second,
-    ];
-    Some((parts, nanoseconds))
+    Some(([year, month, day, hour, minute, second], nanoseconds))
 }
 
 /// `YYYYMMDD` and two digits each for hour, minute and second, as
@@ -217,13 +215,25 @@ mod tests {
     }
 
     #[test]
+    fn all_times_read_back() {
+        let mut seconds = u64::MAX;
+        while seconds > 0 {
+            for seconds in [seconds, seconds - 1, seconds / 86_400 * 86_400] {
+                let time = at(seconds, seconds % 1_000_000_000);
+                assert_eq!(Time::parse(&time.to_string()), Some(time));
+            }
+            seconds -= 1 + seconds / 7;
+        }
+    }
+
+    #[test]
     fn each_day_reads_back() {
         let mut last = String::new();
         for day in (0..2_932_897).step_by(13) {
             let time = at(day * DAY + day % DAY, day % 1_000_000_000);
             let text = time.to_string();
             assert_eq!(Time::parse(&text), Some(time), "{text}");
-            assert!(last < text, "{last} {text}");
+            assert!(last < text, "{last} is not before {text}");
             last = text;
         }
     }
@@ -277,6 +287,10 @@ mod tests {
             "2025-11-15T12:00:00.1234567890",
             "2025-11-15T12:00:00+02:00",
             "2025-+1-15",
+            "+2025-11-15",
+            "+0002025-11-32",
+            "+584554051223-11-09T07:00:16",
+            "+99999999999999999999-01-01",
             "2025-11-15ZZ",
             "202511",
             "2025111",

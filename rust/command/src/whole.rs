@@ -39,7 +39,7 @@ pub fn show(files: &Files, view: &View) -> Result<Status, Halt> {
 fn show_one(out: &mut Output, name: &OsStr, trail: &[u8], view: &View) -> io::Result<Status> {
     let mut state = State::default();
     view.form.write_first(out)?;
-    let stop = view.write_items(out, name, trail, &mut state)?;
+    let stop = view.write_items(out, name, trail, &mut state, || true)?;
     view.form.write_last(out, trail, state)?;
     // Before what is said of it on standard error.
     out.flush()?;

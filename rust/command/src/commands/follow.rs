@@ -6,15 +6,18 @@ use crate::choice::{Choice, HELP};
 use crate::followed::{Followed, News};
 use crate::form::Form;
 use crate::output::{output, say, say_unread, title, Output};
-use crate::reading::{say_stop, View};
+use crate::reading::{say_stop, Stop, View};
 use crate::status::Status;
 use crate::system::{catch_interrupts, interrupted, wait, Woken};
-use bsm::{Reason, Refusal, State};
+use bsm::{Reason, State};
 use std::ffi::{OsStr, OsString};
 use std::io::{self, ErrorKind, Write};
 use std::mem::take;
 use std::os::fd::AsFd;
-use std::time::Duration;
+use std::time::{Duration, Instant};
+
+/// How long an interrupt may go unseen.
+const MOMENT: Duration = Duration::from_millis(100);
 
 /// The subcommand.
 pub const FOLLOW: Subcommand = Subcommand {
@@ -40,12 +43,12 @@ replaced or removed.
 
 fn run(words: Vec<OsString>) -> Result<Status, Halt> {
     let mut choice = Choice::default();
-    let mut form = Form::Text;
+    let mut form = None;
     let mut interval = Duration::from_millis(100);
     let files = read(words, |option, given| {
         match option {
-            "--list" => form = Form::Listing,
-            "--json" => form = Form::Json,
+            "--list" => choose(&mut form, Form::Listing)?,
+            "--json" => choose(&mut form, Form::Json)?,
             "--interval" => interval = seconds(given)?,
             _ => return choice.take(option, given),
         }
@@ -63,6 +66,7 @@ fn run(words: Vec<OsString>) -> Result<Status, Halt> {
             return Ok(Status::Failed);
         }
     };
+    let form = form.unwrap_or(Form::Text);
     catch_interrupts();
     let mut follow = Follow {
         name,
@@ -71,9 +75,17 @@ fn run(words: Vec<OsString>) -> Result<Status, Halt> {
         out: output()?,
         followed,
         state: State::default(),
-        stop: None,
+        stop: Stop::End,
     };
     Ok(follow.run()?.max(files.status))
+}
+
+/// Sets the form, unless another was asked for.
+fn choose(form: &mut Option<Form>, wanted: Form) -> Result<(), String> {
+    match form.replace(wanted) {
+        Some(other) if other != wanted => Err("either --list or --json".into()),
+        _ => Ok(()),
+    }
 }
 
 /// A time to wait, of at least a millisecond.
@@ -95,15 +107,15 @@ struct Follow<'a> {
     followed: Followed,
     /// Where the reading stands.
     state: State,
-    /// Why it does not go on, for now or for good; nothing at the end.
-    stop: Option<Refusal>,
+    /// Why it does not go on, for now or for good.
+    stop: Stop,
 }
 
 impl Follow<'_> {
     fn run(&mut self) -> io::Result<Status> {
         self.view.form.write_first(&mut self.out)?;
         let mut readable = false;
-        while !interrupted() {
+        loop {
             let news = match self.followed.look(take(&mut readable)) {
                 Ok(news) => news,
                 Err(error) => {
@@ -122,7 +134,7 @@ impl Follow<'_> {
                 }
                 News::Lost(what) => return self.changed(what),
             }
-            if self.is_refused() {
+            if self.is_refused() || interrupted() {
                 break;
             }
         }
@@ -131,15 +143,19 @@ impl Follow<'_> {
 
     /// Writes the items that have become whole.
     fn write_more(&mut self) -> io::Result<()> {
-        let (view, trail) = (&self.view, self.followed.trail());
-        self.stop = view.write_items(&mut self.out, self.name, trail, &mut self.state)?;
+        self.stop = self.view.write_items(
+            &mut self.out,
+            self.name,
+            self.followed.trail(),
+            &mut self.state,
+            || !interrupted(),
+        )?;
         Ok(())
     }
 
     /// Whether no longer trail is answered otherwise.
     fn is_refused(&self) -> bool {
-        self.stop
-            .is_some_and(|refusal| refusal.reason != Reason::Short)
+        matches!(self.stop, Stop::Refused(refusal) if refusal.reason != Reason::Short)
     }
 
     /// Hands on all that was written, and waits for more to come. Answers
@@ -147,18 +163,27 @@ impl Follow<'_> {
     fn wait(&mut self) -> io::Result<bool> {
         self.out.flush()?;
         let output = self.out.get_ref().as_fd();
-        match wait(output, self.followed.descriptor(), self.interval) {
-            Woken::Nothing => Ok(false),
-            Woken::Readable => Ok(true),
-            Woken::Closed => Err(ErrorKind::BrokenPipe.into()),
+        let start = Instant::now();
+        while !interrupted() {
+            // An interrupt may come just before a wait, so none is long.
+            let left = self.interval.saturating_sub(start.elapsed());
+            match wait(output, self.followed.descriptor(), left.min(MOMENT)) {
+                Woken::Readable => return Ok(true),
+                Woken::Closed => return Err(ErrorKind::BrokenPipe.into()),
+                Woken::Nothing if left <= MOMENT => break,
+                Woken::Nothing => {}
+            }
         }
+        Ok(false)
     }
 
     /// Writes what stands behind all items, and says how the trail ended.
     fn finish(&mut self) -> io::Result<Status> {
         let trail = self.followed.trail();
         let form = self.view.form;
-        form.write_last(&mut self.out, trail, self.state)?;
+        if self.stop != Stop::Told {
+            form.write_last(&mut self.out, trail, self.state)?;
+        }
         self.out.flush()?;
         Ok(say_stop(self.name, trail, self.stop))
     }

@@ -90,27 +90,29 @@ fn random_and_damaged_trails() {
     }
 }
 
-/// In headings, in what is said, and in JSON.
+/// In headings, in what is said, and in JSON. The trail is refused at its
+/// end, so that following it ends.
 #[test]
 fn names_of_files() {
     let scratch = Scratch::new();
-    let name = b"\x1b[2J\n\r\x7f\xff\xc2\x9b.trail";
-    let good = OsStr::from_bytes(name);
-    scratch.file(good, &tokens_trail());
+    let name = OsStr::from_bytes(b"\x1b[2J\n\r\x7f\xff\xc2\x9b.trail");
+    scratch.file(name, &[&tokens_trail()[..], b"\x13"].concat());
     let missing = OsStr::from_bytes(b"\x1b]0;gone\x07");
     let option = OsStr::from_bytes(b"--\x1b[1m");
-    for words in WAYS {
-        let mut words: Vec<&OsStr> = words.iter().map(OsStr::new).collect();
+    for way in WAYS {
+        let mut words: Vec<&OsStr> = way.iter().map(OsStr::new).collect();
+        words.extend([option, name]);
+        // One file can be followed at a time.
         let follows = words[0] == "follow";
-        words.extend([option, missing, good]);
-        if follows {
-            words.pop();
+        if !follows {
+            words.extend([missing, name]);
         }
         let ended = ended(scratch.bsm(&words));
-        let what = if words[0] == "list" { "list" } else { "other" };
-        printable(what, &ended.stdout);
+        let listing = way.contains(&"list") || way.contains(&"--list");
+        printable(if listing { "list" } else { "other" }, &ended.stdout);
         printable("said", ended.stderr.as_bytes());
         assert_eq!(ended.status, 2);
-        assert_eq!(ended.stderr.lines().count(), 2, "{}", ended.stderr);
+        let lines = if follows { 2 } else { 4 };
+        assert_eq!(ended.stderr.lines().count(), lines, "{}", ended.stderr);
     }
 }

@@ -3,7 +3,7 @@
 use crate::run::*;
 use crate::trails::*;
 use bsm::Token;
-use std::fs;
+use std::fs::{self, File};
 use std::path::{Path, PathBuf};
 use std::process::Command;
 
@@ -38,20 +38,32 @@ fn example_in_c(scratch: &Scratch) -> PathBuf {
     program
 }
 
-/// Built with the tests of the crate bsm.
-fn example_in_rust() -> PathBuf {
-    let program = built().with_file_name("examples").join("find_session");
-    assert!(
-        program.is_file(),
-        "run `cargo build --release --examples` first"
+/// The example as a package of its own that has the README's dependency.
+fn example_in_rust(scratch: &Scratch) -> PathBuf {
+    let line = readme_line("bsm = { path = \"");
+    let (_, end) = line.split_once("/rust/bsm\"").expect("a path to the crate");
+    let path = root().join("rust/bsm");
+    let manifest = format!(
+        "[package]\nname = \"user\"\nversion = \"0.1.0\"\nedition = \"2021\"\n\
+         [dependencies]\nbsm = {{ path = \"{}\"{end}\n",
+        path.display()
     );
-    program
+    scratch.file("Cargo.toml", manifest.as_bytes());
+    fs::create_dir(scratch.path().join("src")).expect("a new folder");
+    let source = fs::read(path.join("examples/find_session.rs")).expect("the example");
+    scratch.file("src/main.rs", &source);
+    let mut cargo = Command::new(env!("CARGO"));
+    cargo.args(["build", "--quiet", "--offline", "--target-dir", "target"]);
+    cargo.current_dir(scratch.path());
+    let built = ended(cargo);
+    assert_eq!((built.status, &built.stderr[..]), (0, ""));
+    scratch.path().join("target/debug/user")
 }
 
 #[test]
 fn both_find_the_session() {
     let scratch = Scratch::new();
-    let programs = [example_in_c(&scratch), example_in_rust()];
+    let programs = [example_in_c(&scratch), example_in_rust(&scratch)];
     let text_of = |text| Token::Text { text };
     let records = [
         record(
@@ -96,39 +108,21 @@ fn both_find_the_session() {
         let end = ": still being written\n";
         assert!(short.stderr.ends_with(end), "{}", short.stderr);
         assert_eq!(short.status, 1);
-        assert_eq!(run("seven", &trail).status, 2);
-    }
-}
+        for session in ["seven", "+7", "-7", "", "4294967296", "7 "] {
+            let usage = run(session, &trail);
+            let said = "usage: find_session SESSION < TRAIL\n";
+            assert_eq!((usage.status, &usage.stderr[..]), (2, said), "{session}");
+        }
+        assert_eq!(run("4294967295", &trail).status, 0);
 
-/// A package of its own that has the README's dependency.
-#[test]
-fn the_dependency_by_path() {
-    let scratch = Scratch::new();
-    let line = readme_line("bsm = { path = \"");
-    let (_, end) = line.split_once("/rust/bsm\"").expect("a path to the crate");
-    let path = root().join("rust/bsm");
-    let manifest = format!(
-        "[package]\nname = \"user\"\nversion = \"0.1.0\"\nedition = \"2021\"\n\
-         [dependencies]\nbsm = {{ path = \"{}\"{end}\n",
-        path.display()
-    );
-    scratch.file("Cargo.toml", manifest.as_bytes());
-    fs::create_dir(scratch.path().join("src")).expect("a new folder");
-    let source = fs::read(path.join("examples/find_session.rs")).expect("the example");
-    scratch.file("src/main.rs", &source);
-    let mut cargo = Command::new(env!("CARGO"));
-    cargo.args([
-        "run",
-        "--quiet",
-        "--offline",
-        "--target-dir",
-        "target",
-        "--",
-        "7",
-    ]);
-    cargo.current_dir(scratch.path());
-    let trail = record(&header(1, 5), &[Token::Subject32(party(1, 1))]);
-    let found = fed(cargo, &trail);
-    assert_eq!(text(&found.stdout), "0\tevent 1\t5.000000000\tuser 1\n");
-    assert_eq!((found.status, &found.stderr[..]), (0, ""));
+        let full = File::options().write(true).open("/dev/full");
+        let mut command = Command::new(program);
+        let input = File::open(scratch.file("trail", &trail)).expect("it was written");
+        command.arg("7").stdin(input);
+        command.stdout(full.expect("a device that is always full"));
+        let unwritten = outcome(started(command));
+        let said = "find_session: No space left on device";
+        assert!(unwritten.stderr.starts_with(said), "{}", unwritten.stderr);
+        assert_eq!(unwritten.status, 2);
+    }
 }

@@ -49,12 +49,14 @@ fn one_trail() {
 #[test]
 fn refusals_are_said() {
     let mut rng = Rng::new(841);
+    let mut said = [0; 10];
     for number in [1, 3, 4, 5, 6, 7, 8, 9] {
         for _ in 0..20 {
             let trail = targeted(&mut rng, number).0;
             let Some(refusal) = reference::run(&trail, Default::default()).refusal else {
                 continue;
             };
+            said[usize::from(refusal.number)] += 1;
             let ended = fed(bsm(["print"]), &trail);
             let numbers = format!(
                 "(refusal {}, place {}, need {})\n",
@@ -73,6 +75,8 @@ fn refusals_are_said() {
             assert_eq!(ended.status, status_of(&trail));
         }
     }
+    let least = [1, 3, 4, 5, 6, 7, 8, 9].map(|number| said[number]);
+    assert!(least.iter().all(|&count| count > 0), "{said:?}");
 }
 
 /// The worst counts: 2 before 1, 1 before 3, 3 before 0.

@@ -120,14 +120,16 @@ fn byte_by_byte() {
     let mut rng = Rng::new(851);
     let trail = loop {
         let trail = good_trail(&mut rng, 6);
-        if trail.len() < 1_000 {
+        if trail.len() < 600 {
             break trail;
         }
     };
     let following = Following::file(&["--list"], &path);
-    for end in 0..trail.len() {
-        append(&path, &trail[end..end + 1]);
-        following.wait_for(&lines_so_far(&trail[..end + 1]));
+    for end in 1..=trail.len() {
+        append(&path, &trail[end - 1..end]);
+        // So that most cuts are looked at.
+        sleep(Duration::from_millis(4));
+        following.wait_for(&lines_so_far(&trail[..end]));
     }
     following.interrupted_after(&trail);
 }
@@ -146,6 +148,7 @@ fn in_random_steps() {
         let mut from = 0;
         for end in growth(&mut rng, trail.len()) {
             append(&path, &trail[from..end]);
+            sleep(Duration::from_millis(4));
             following.wait_for(&lines_so_far(&trail[..end]));
             from = end;
         }
@@ -314,17 +317,55 @@ fn standard_input() {
     }
 }
 
+/// A trail that lists to more than a pipe holds, and a command that follows
+/// it, of which nobody reads more than the first byte.
+fn stalled(scratch: &Scratch) -> (Child, Vec<u8>) {
+    let trail = tokens_trail().repeat(20_000);
+    let path = scratch.file("trail", &trail);
+    let mut command = bsm(["follow", "--list"]);
+    command.arg(&path).stdin(Stdio::null());
+    command.stdout(Stdio::piped());
+    let mut child = started(command);
+    let mut first = [0];
+    let stdout = child.stdout.as_mut().expect("a pipe");
+    stdout.read_exact(&mut first).expect("it writes");
+    (child, reference::listing(&trail))
+}
+
+/// It does not go on to the end of what is there, and then has no last
+/// line.
+#[test]
+fn an_interrupt_while_it_catches_up() {
+    let scratch = Scratch::new();
+    let (child, listing) = stalled(&scratch);
+    signal(&child, "INT");
+    let ended = outcome(child);
+    assert_eq!((ended.status, &ended.stderr[..]), (130, ""));
+    assert!(listing[1..].starts_with(&ended.stdout));
+    assert!(ended.stdout.len() < 300_000 && listing.len() > 1_000_000);
+    assert!(ended.stdout.ends_with(b"\n"));
+}
+
+/// An interrupt is not lost, however long the interval is.
+#[test]
+fn an_interrupt_while_it_waits() {
+    let scratch = Scratch::new();
+    let trail = tokens_trail();
+    let path = scratch.file("trail", &trail);
+    for _ in 0..20 {
+        let mut command = bsm(["follow", "--list", "--interval", "86400"]);
+        command.arg(&path).stdin(Stdio::null());
+        let following = Following::start(command);
+        following.wait_for(&lines_so_far(&trail));
+        following.interrupted_after(&trail);
+    }
+}
+
 /// Also while nobody reads what it writes.
 #[test]
 fn a_second_interrupt_ends_it_at_once() {
     let scratch = Scratch::new();
-    let path = scratch.file("trail", &tokens_trail().repeat(1_000));
-    let mut command = bsm(["follow"]);
-    command.arg(&path).stdin(Stdio::null());
-    command.stdout(Stdio::piped());
-    let mut child = started(command);
-    let mut stdout = child.stdout.take().expect("a pipe");
-    stdout.read_exact(&mut [0; 1]).expect("it writes");
+    let (mut child, _) = stalled(&scratch);
     let start = Instant::now();
     while child.try_wait().expect("a child").is_none() && start.elapsed() < PATIENCE {
         signal(&child, "INT");
@@ -359,6 +400,10 @@ fn what_cannot_be_followed() {
     for (words, said) in [
         (&["missing"][..], "missing: No such file or directory"),
         (&["."], ".: Is a directory"),
+        (
+            &["--list", "--json", "trail"],
+            "either --list or --json; see 'bsm help follow'",
+        ),
         (
             &["trail", "trail"],
             "one FILE can be followed at a time; see 'bsm help follow'",

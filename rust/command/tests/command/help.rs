@@ -27,8 +27,13 @@ fn general_help() {
             "{general}"
         );
     }
-    for status in ["0 ", "1 ", "2 ", "3 ", "4 ", "141 "] {
-        assert!(general.contains(status), "{general}");
+    let (_, statuses) = general.split_once("\nStatus: 0 ").expect("statuses");
+    for status in [1, 2, 3, 4, 130, 141] {
+        let named = [format!(", {status} "), format!(",\n{status} ")];
+        assert!(
+            named.iter().any(|named| statuses.contains(named)),
+            "{status}"
+        );
     }
 }
 

@@ -3,14 +3,17 @@
 
 use crate::run::*;
 use crate::trails::tokens_trail;
-use std::fs;
-use std::os::unix::fs::{symlink, PermissionsExt};
+use std::fs::{self, File};
+use std::os::unix::fs::symlink;
 use std::path::{Path, PathBuf};
 use std::process::Command;
+use std::thread;
+use std::time::SystemTime;
 
-/// Stands in for `rt`: the program lists by a code, the archive is the code.
+/// Stands in for `rt`: the program and the archive are the code. Someone may
+/// change the code meanwhile.
 const RT: &str = r#"#!/bin/sh
-echo "$@" >>calls
+echo "rt $*" >>calls
 cat >/dev/null
 if grep -q fails crates/code.rt; then
     echo "rt: the code fails" >&2
@@ -20,18 +23,27 @@ echo "rt: crate proved (unchanged since it was last proved)"
 echo "rt: crate proved (7 s)"
 mkdir -p target/bin target/staticlib
 case $1 in
-    check) cp crates/code.rt target/bin/bsmlist && chmod +x target/bin/bsmlist ;;
-    staticlib) cp crates/code.rt target/staticlib/libbsm_export.a ;;
+    check) product=target/bin/bsmlist ;;
+    staticlib) product=target/staticlib/libbsm_export.a ;;
 esac
+cp crates/code.rt new
+chmod +x new
+mv new $product
+if [ -e meanwhile ]; then mv meanwhile crates/code.rt; fi
 "#;
 
-/// Stands in for `cargo`: the command runs the archive.
+/// Stands in for `cargo`, and goes by times as it does: the command is the
+/// archive and a source behind it.
 const CARGO: &str = r#"#!/bin/sh
 echo cargo >>../calls
-mkdir -p target/release
-cp ../target/staticlib/libbsm_export.a target/release/bsm
-chmod +x target/release/bsm
-echo "   Compiling command v0.1.0 (/somewhere)" >&2
+mkdir -p target/release/.fingerprint/command-0
+if [ ! -e target/release/.fingerprint/command-0/made ] || [ command/src/main.rs -nt target/release/bsm ]; then
+    cat ../target/staticlib/libbsm_export.a command/src/main.rs >new
+    chmod +x new
+    mv new target/release/bsm
+    echo "   Compiling command v0.1.0 (/somewhere)" >&2
+fi
+touch target/release/.fingerprint/command-0/made
 echo "    Finished" >&2
 "#;
 
@@ -40,27 +52,40 @@ fn code(version: &str) -> String {
     format!("#!/bin/sh\necho {version} \"$@\"\ncat\n")
 }
 
-fn executable(path: PathBuf, text: &str) {
-    fs::write(&path, text).expect("it can be written");
-    fs::set_permissions(&path, fs::Permissions::from_mode(0o755)).expect("rights can be set");
-}
-
 /// A copy of the launchers with code of its own.
 struct Copy(Scratch);
 
 impl Copy {
     fn new() -> Copy {
         let copy = Copy(Scratch::new());
-        for folder in ["crates", "scripts", "rust", "tools", "elsewhere"] {
-            fs::create_dir(copy.path(folder)).expect("a new folder");
+        for folder in [
+            "crates",
+            "scripts",
+            "rust/bsm",
+            "rust/command/src",
+            "tools",
+            "elsewhere",
+        ] {
+            fs::create_dir_all(copy.path(folder)).expect("a new folder");
         }
+        // Another process writes what is to be run: one that is started
+        // while this one writes would hold it open.
         for name in ["bsm", "bsmlist", "scripts/ready"] {
-            fs::copy(root().join(name), copy.path(name)).expect("a copy");
+            let mut cp = Command::new("cp");
+            cp.args([root().join(name), copy.path(name)]);
+            assert_eq!(ended(cp).status, 0);
         }
-        executable(copy.path("tools/rt"), RT);
-        executable(copy.path("tools/cargo"), CARGO);
-        fs::write(copy.path("crates.txt"), "crate\n").expect("it can be written");
-        copy.set_code(&code("first"));
+        for (name, text) in [("tools/rt", RT), ("tools/cargo", CARGO)] {
+            let mut shell = Command::new("/bin/sh");
+            shell.args(["-c", "cat >\"$0\" && chmod +x \"$0\""]);
+            shell.arg(copy.path(name));
+            assert_eq!(fed(shell, text.as_bytes()).status, 0);
+        }
+        for name in ["crates.txt", "rust/Cargo.toml", "rust/command/Cargo.toml"] {
+            copy.write(name, "");
+        }
+        copy.write("rust/command/src/main.rs", "");
+        copy.write("crates/code.rt", &code("first"));
         copy
     }
 
@@ -68,8 +93,17 @@ impl Copy {
         self.0.path().join(name)
     }
 
-    fn set_code(&self, code: &str) {
-        fs::write(self.path("crates/code.rt"), code).expect("it can be written");
+    fn write(&self, name: &str, text: &str) {
+        self.0.file(name, text.as_bytes());
+    }
+
+    /// Writes a file that seems to be as old as can be.
+    fn write_old(&self, name: &str, text: &str) {
+        self.write(name, text);
+        let file = File::options().write(true).open(self.path(name));
+        let file = file.expect("it is there");
+        file.set_modified(SystemTime::UNIX_EPOCH)
+            .expect("times can be set");
     }
 
     /// A launcher, run in another folder.
@@ -85,6 +119,16 @@ impl Copy {
         fed(self.command(&self.path(name), words), input.as_bytes())
     }
 
+    /// Runs a launcher and sees what it writes, and whether it built for it.
+    fn writes(&self, name: &str, output: &str, built: bool) {
+        self.calls();
+        let ended = self.run(name, &[], "");
+        assert_eq!(text(&ended.stdout), output, "{}", ended.stderr);
+        assert_eq!(ended.status, 0);
+        assert_eq!(!self.calls().is_empty(), built);
+        assert_eq!(!ended.stderr.is_empty(), built, "{}", ended.stderr);
+    }
+
     /// What was called since the last time.
     fn calls(&self) -> String {
         let calls = fs::read_to_string(self.path("calls")).unwrap_or_default();
@@ -93,12 +137,12 @@ impl Copy {
     }
 }
 
-/// The launchers, and how each proves its part.
+/// The launchers, and what each has proved.
 const LAUNCHERS: [(&str, &str, &str); 2] = [
-    ("bsmlist", "check bsmlist\n", "target/bin/bsmlist"),
+    ("bsmlist", "rt check bsmlist\n", "target/bin/bsmlist"),
     (
         "bsm",
-        "staticlib bsm_export\n",
+        "rt staticlib bsm_export\n",
         "target/staticlib/libbsm_export.a",
     ),
 ];
@@ -109,79 +153,87 @@ fn builds_once_and_says_so() {
         let copy = Copy::new();
         let first = copy.run(name, &["a", "b c"], "input\n");
         assert_eq!(text(&first.stdout), "first a b c\ninput\n");
-        let said: Vec<&str> = first.stderr.lines().collect();
-        assert!(
-            said[0].starts_with(&format!("{name}: {product} is missing")),
-            "{said:?}"
-        );
-        assert_eq!(said[1], format!("{name}: crate proved (7 s)"));
-        assert!(said[2..]
-            .iter()
-            .all(|line| *line == "bsm: compiling command"));
-        assert!(copy.calls().starts_with(proving));
+        let mut said = vec![
+            format!("{name}: {product} is missing or not from this code; proving and building it: some minutes"),
+            format!("{name}: crate proved (7 s)"),
+        ];
+        let mut calls = proving.to_string();
+        if name == "bsm" {
+            let product = "rust/target/release/bsm";
+            said.push(format!(
+                "bsm: {product} is missing or not from this code; compiling it"
+            ));
+            said.push("bsm: compiling command".to_string());
+            calls.push_str("cargo\n");
+        }
+        assert!(first.stderr.lines().eq(&said), "{}", first.stderr);
+        assert_eq!(copy.calls(), calls);
 
         let second = copy.run(name, &[], "more");
         assert_eq!(text(&second.stdout), "first\nmore");
-        assert_eq!(copy.calls().replace("cargo\n", ""), "");
-        assert!(!second.stderr.contains("prov"), "{}", second.stderr);
+        assert_eq!((&second.stderr[..], &copy.calls()[..]), ("", ""));
     }
 }
 
-/// Whatever the times of the files say.
+/// Whatever the times of the files say, and whoever made the product.
 #[test]
 fn never_runs_a_stale_build() {
-    for (name, proving, product) in LAUNCHERS {
+    for (name, _, product) in LAUNCHERS {
         let copy = Copy::new();
-        copy.run(name, &[], "");
-        copy.calls();
-
-        copy.set_code(&code("second"));
-        let old = fs::File::options()
-            .write(true)
-            .open(copy.path("crates/code.rt"));
-        let long_ago = std::time::SystemTime::UNIX_EPOCH;
-        old.expect("it is there")
-            .set_modified(long_ago)
-            .expect("times can be set");
-        let changed = copy.run(name, &[], "");
-        assert_eq!(text(&changed.stdout), "second\n");
-        assert!(copy.calls().starts_with(proving));
-
-        // Built from other code, by whomever.
-        executable(copy.path(product), &code("other"));
-        assert_eq!(text(&copy.run(name, &[], "").stdout), "second\n");
-        assert!(copy.calls().starts_with(proving));
-
+        copy.writes(name, "first\n", true);
+        copy.write_old("crates/code.rt", &code("second"));
+        copy.writes(name, "second\n", true);
+        copy.write(product, &code("other"));
+        copy.writes(name, "second\n", true);
         fs::remove_file(copy.path(product)).expect("it is there");
-        assert_eq!(text(&copy.run(name, &[], "").stdout), "second\n");
-        assert!(copy.calls().starts_with(proving));
+        copy.writes(name, "second\n", true);
+        copy.write("crates.txt", "another\n");
+        copy.writes(name, "second\n", true);
+        copy.writes(name, "second\n", false);
+    }
+}
 
-        fs::write(copy.path("crates.txt"), "crate\nanother\n").expect("it can be written");
-        assert_eq!(text(&copy.run(name, &[], "").stdout), "second\n");
-        assert!(copy.calls().starts_with(proving));
+#[test]
+fn never_runs_a_stale_command() {
+    let copy = Copy::new();
+    copy.writes("bsm", "first\n", true);
+    copy.write_old("rust/command/src/main.rs", "echo and more\n");
+    copy.writes("bsm", "first\nand more\n", true);
+    copy.write("rust/target/release/bsm", "#!/bin/sh\necho another\n");
+    copy.writes("bsm", "first\nand more\n", true);
+    copy.write_old("rust/bsm/lib.rs", "");
+    copy.writes("bsm", "first\nand more\n", true);
+    copy.writes("bsm", "first\nand more\n", false);
+}
+
+/// What was proved is not the code any more: it is proved again.
+#[test]
+fn code_that_changes_meanwhile() {
+    for (name, proving, _) in LAUNCHERS {
+        let copy = Copy::new();
+        copy.write("meanwhile", &code("later"));
+        let ended = copy.run(name, &[], "");
+        assert_eq!(text(&ended.stdout), "later\n");
+        assert_eq!(copy.calls().matches(proving).count(), 2);
+        copy.writes(name, "later\n", false);
     }
 }
 
 /// What cannot be built is not run, not even as it was before.
 #[test]
 fn a_failed_build_is_shown() {
-    for (name, proving, _) in LAUNCHERS {
+    for (name, _, product) in LAUNCHERS {
         let copy = Copy::new();
-        copy.run(name, &[], "");
-        copy.set_code("fails");
+        copy.writes(name, "first\n", true);
+        copy.write("crates/code.rt", "fails");
         for _ in 0..2 {
             let failed = copy.run(name, &[], "");
             assert_eq!((failed.status, text(&failed.stdout)), (2, ""));
-            assert!(
-                failed.stderr.contains("\nrt: the code fails\n"),
-                "{}",
-                failed.stderr
-            );
-            let last = format!("{name}: could not be built: rt {proving}");
-            assert!(failed.stderr.ends_with(&last), "{}", failed.stderr);
+            let end = format!("rt: the code fails\n{name}: {product} could not be built\n");
+            assert!(failed.stderr.ends_with(&end), "{}", failed.stderr);
         }
-        copy.set_code(&code("third"));
-        assert_eq!(text(&copy.run(name, &[], "").stdout), "third\n");
+        copy.write("crates/code.rt", &code("third"));
+        copy.writes(name, "third\n", true);
     }
 }
 
@@ -192,7 +244,7 @@ fn links_and_two_at_a_time() {
         let copy = Copy::new();
         symlink(copy.path(name), copy.path("elsewhere/direct")).expect("a link");
         symlink("direct", copy.path("elsewhere/link")).expect("a link");
-        let (one, two) = std::thread::scope(|scope| {
+        let (one, two) = thread::scope(|scope| {
             let run = |link: &'static str| {
                 let copy = &copy;
                 move || ended(copy.command(Path::new(link), &["x"]))
@@ -201,10 +253,9 @@ fn links_and_two_at_a_time() {
             let two = scope.spawn(run("./direct"));
             (one.join().expect("it ends"), two.join().expect("it ends"))
         });
-        assert_eq!(
-            (text(&one.stdout), text(&two.stdout)),
-            ("first x\n", "first x\n")
-        );
+        for ended in [one, two] {
+            assert_eq!(text(&ended.stdout), "first x\n", "{}", ended.stderr);
+        }
         assert_eq!(copy.calls().matches(proving).count(), 1);
     }
 }
@@ -252,6 +303,10 @@ fn the_lister_of_the_repository() {
         assert_eq!((ended.status, text(&ended.stdout)), (2, ""));
         assert_eq!(ended.stderr.lines().count(), 1, "{}", ended.stderr);
     }
+    let steering = run(&["--\x1b[1m", "no\x07file"]);
+    assert_eq!(steering.stderr.lines().count(), 2);
+    let raw = |byte: u8| byte.is_ascii_control() && byte != b'\n';
+    assert!(!steering.stderr.bytes().any(raw), "{}", steering.stderr);
     for words in [&["-h"][..], &["--help"], &["good", "--help"]] {
         let help = run(words);
         assert!(text(&help.stdout).starts_with("usage: bsmlist "));
