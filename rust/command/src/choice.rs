@@ -113,11 +113,11 @@ where
         Some(digits) => (digits, 16),
         None => (&text[..], 10),
     };
-    let read = match digits.chars().all(|digit| digit.is_digit(radix)) {
-        true => u64::from_str_radix(digits, radix).ok(),
-        false => None,
-    };
-    read.and_then(|number| T::try_from(number).ok())
+    // Without signs, which the standard library would take.
+    let unsigned = digits.chars().all(|digit| digit.is_digit(radix));
+    let read = unsigned.then(|| u64::from_str_radix(digits, radix).ok());
+    read.flatten()
+        .and_then(|number| T::try_from(number).ok())
         .ok_or_else(|| format!("{option} {text}: not a number from 0 to {most}"))
 }
 

@@ -41,18 +41,20 @@ enum Source {
 impl Followed {
     /// Opens what is to be followed: a name, or `-` for standard input.
     pub fn open(name: &OsStr) -> io::Result<Followed> {
-        let (mut file, path) = match name == "-" {
-            true => (File::from(stdin().as_fd().try_clone_to_owned()?), None),
-            false => (File::open(name)?, Some(PathBuf::from(name))),
+        let (mut file, path) = if name == "-" {
+            (File::from(stdin().as_fd().try_clone_to_owned()?), None)
+        } else {
+            (File::open(name)?, Some(PathBuf::from(name)))
         };
-        let source = match file.metadata()?.is_file() {
-            false => Source::Stream(file),
-            true => Source::File(Watched {
+        let source = if file.metadata()?.is_file() {
+            Source::File(Watched {
                 start: file.stream_position()?,
                 path,
                 file,
                 seen: None,
-            }),
+            })
+        } else {
+            Source::Stream(file)
         };
         let trail = Vec::new();
         Ok(Followed { trail, source })

@@ -39,8 +39,9 @@ pub fn say_unread(name: &OsStr, error: &io::Error) {
 
 /// What a file is called in headings and messages.
 pub fn title(name: &OsStr) -> String {
-    match name == "-" {
-        true => "standard input".into(),
-        false => shown(name),
+    if name == "-" {
+        "standard input".into()
+    } else {
+        shown(name)
     }
 }

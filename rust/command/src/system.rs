@@ -31,7 +31,7 @@ static INTERRUPTED: AtomicBool = AtomicBool::new(false);
 
 extern "C" fn note(number: c_int) {
     INTERRUPTED.store(true, Ordering::Relaxed);
-    // SAFETY: this may be called in a handler.
+    // SAFETY: `signal` is among the calls that a handler may make.
     unsafe { signal(number, SIG_DFL) };
 }
 
@@ -39,7 +39,8 @@ extern "C" fn note(number: c_int) {
 /// nothing. A second one ends the process, whatever it waits for.
 pub fn catch_interrupts() {
     for number in [SIGINT, SIGTERM] {
-        // SAFETY: the handler does only what a handler may do.
+        // SAFETY: the handler stores to an atomic and calls `signal`, which a
+        // handler may do.
         unsafe { signal(number, note as *const () as usize) };
     }
 }

@@ -147,9 +147,10 @@ fn expected(trail: &[u8], asked: &Asked) -> (String, Vec<usize>) {
     assert_eq!(lines.len(), items.len() + 2);
     let mut places = Vec::new();
     for (i, (place, item)) in items.iter().enumerate() {
-        match asked.holds(item) {
-            true => places.push(*place),
-            false => lines[i + 1] = "",
+        if asked.holds(item) {
+            places.push(*place);
+        } else {
+            lines[i + 1] = "";
         }
     }
     (lines.concat(), places)

@@ -127,7 +127,7 @@ fn unreadable_between_others() {
 fn unreadable_by_its_rights() {
     let scratch = Scratch::new();
     let path = scratch.file("locked", &tokens_trail());
-    fs::set_permissions(&path, fs::Permissions::from_mode(0)).expect("rights can be set");
+    fs::set_permissions(&path, fs::Permissions::from_mode(0o0)).expect("rights can be set");
     let ended = ended(scratch.bsm(["print", "locked"]));
     match fs::read(&path) {
         Ok(_) => assert_eq!(ended.status, 0),

@@ -271,16 +271,13 @@ fn a_file_that_is_replaced_or_removed() {
         let last = record(&header(1, 1), &[]);
         append(&path, &last);
         trail.extend(last);
-        let what = match replaced {
-            true => {
-                let other = scratch.file("other", b"\x11");
-                fs::rename(other, &path).expect("it can be renamed");
-                "has been replaced by another file"
-            }
-            false => {
-                fs::remove_file(&path).expect("it can be removed");
-                "has been removed"
-            }
+        let what = if replaced {
+            let other = scratch.file("other", b"\x11");
+            fs::rename(other, &path).expect("it can be renamed");
+            "has been replaced by another file"
+        } else {
+            fs::remove_file(&path).expect("it can be removed");
+            "has been removed"
         };
         let listing = reference::listing(&trail);
         changed(following, &path, what, text(&listing));
