@@ -358,6 +358,21 @@ fn an_interrupt_while_it_waits() {
     }
 }
 
+/// It looks no earlier than it was told to.
+#[test]
+fn a_long_interval() {
+    let scratch = Scratch::new();
+    let trail = tokens_trail();
+    let path = scratch.file("trail", &trail);
+    let mut command = bsm(["follow", "--list", "--interval=86400"]);
+    command.arg(&path).stdin(Stdio::null());
+    let following = Following::start(command);
+    following.wait_for(&lines_so_far(&trail));
+    append(&path, &trail);
+    sleep(Duration::from_millis(400));
+    following.interrupted_after(&trail);
+}
+
 /// Also while nobody reads what it writes.
 #[test]
 fn a_second_interrupt_ends_it_at_once() {
