@@ -23,7 +23,7 @@ use Rattle.bsm_item.proofs.Runs.{Stops, Reads, stops, goes, plain-reads}
 use Rattle.bsm_bytes.specs.Write.{Draft, code, Reply, wrote, denied, answerIn, Written}
 use Rattle.bsm_write.specs.Given.{tokenDraft}
 use Rattle.bsm_write.specs.Items.{fileDraft, recordDraft}
-use Rattle.bsm_write.specs.Demands.{Among, OneOf}
+use Rattle.bsm_write.specs.Demands.{Among}
 use Rattle.bsm_bytes.specs.declared.answer.WriteAnswer.the-variants.{Refused}
 use Rattle.bsm_write.proofs.Refusals.{token-refusals, file-refusals, record-refusals}
 use Rattle.bsm_listing.specs.Line.{itemLine}
@@ -135,9 +135,6 @@ among-above [] x a m z = m
 among-above (n ∷ ns) x a (inl e) z = omega (arith, a .0)
 among-above (n ∷ ns) x a (inr m) z = among-above ns x (a .1) m z
 
-numbers-above : (ns : List ℕ) (f : Refusal) → Above ns → OneOf ns f → f .number ≢ 0
-numbers-above ns f a l = among-above ns (f .number) a (l .number)
-
 code-number : (room : ℕ) (bs : List ℕ) (k q n : ℕ) → answerIn room (code bs) ≡ denied k q n → k ≢ 0
 code-number room bs k q n = go (leb (length bs) room)
   where
@@ -174,11 +171,11 @@ numbers-tell =
       bodyFields = fields-whole;
       bodies = bodies-tell;
       runs = runs-tell;
-      ofTokens = λ number values g. tells (tokenDraft number values g) (λ d d′ f w. numbers-above (11 ∷ 8 ∷ 10 ∷ []) f (omega arith, (omega arith, (omega arith, tt))) (token-refusals number values g d d′ f w));
-      ofFiles = λ values name. tells (fileDraft values name) (λ d d′ f w. numbers-above (9 ∷ 8 ∷ 10 ∷ []) f (omega arith, (omega arith, (omega arith, tt))) (file-refusals values name d d′ f w));
+      ofTokens = λ number values g. tells (tokenDraft number values g) (λ d d′ f w. among-above (11 ∷ 8 ∷ 10 ∷ []) (f .number) (omega arith, (omega arith, (omega arith, tt))) (token-refusals number values g d d′ f w .number));
+      ofFiles = λ values name. tells (fileDraft values name) (λ d d′ f w. among-above (9 ∷ 8 ∷ 10 ∷ []) (f .number) (omega arith, (omega arith, (omega arith, tt))) (file-refusals values name d d′ f w .number));
       ofRecords = λ h body.
           tells (recordDraft h body)
-          (λ d d′ f w. ⊎-elim (numbers-above (4 ∷ 11 ∷ 9 ∷ 10 ∷ []) f (omega arith, (omega arith, (omega arith, (omega arith, tt))))) (λ b z. omega (arith, body-fault body (b .found) .least)) (record-refusals h body d d′ f w));
+          (λ d d′ f w. ⊎-elim (λ o. among-above (4 ∷ 11 ∷ 9 ∷ 10 ∷ []) (f .number) (omega arith, (omega arith, (omega arith, (omega arith, tt)))) (o .number)) (λ b z. omega (arith, body-fault body (b .found) .least)) (record-refusals h body d d′ f w));
       ofLines = lines-tell;
       ofItems = item-lines-tell;
       stages = stages-back;
