@@ -1,5 +1,6 @@
 // The cases of paper 01, each with what the item reader answers, and what a reader does at that place; the last one is also read
-// whole by a run. Case "path" has a body whose first token is a path.
+// whole by a run. Case "path" has a body whose first token is a path; in the cases after it that path has a zero byte inside, a last
+// byte that is not zero, and no byte at all.
 use bsm_item::item::Item;
 use bsm_item::item::ItemRead;
 use bsm_item::read::body_of;
@@ -169,6 +170,21 @@ fn main() {
     case(
         b"path",
         b"\x14\0\0\0\x28\0\x0b\0\x48\0\0\0\0\0\x01\0\0\0\x02\x23\0\x05/etc\0\x27\0\0\0\0\0\x13\xb1\x05\0\0\0\x28",
+        0,
+    );
+    case(
+        b"zero inside",
+        b"\x14\0\0\0\x28\0\x0b\0\x48\0\0\0\0\0\x01\0\0\0\x02\x23\0\x05/e\0c\0\x27\0\0\0\0\0\x13\xb1\x05\0\0\0\x28",
+        0,
+    );
+    case(
+        b"no zero",
+        b"\x14\0\0\0\x28\0\x0b\0\x48\0\0\0\0\0\x01\0\0\0\x02\x23\0\x05/etc/\x27\0\0\0\0\0\x13\xb1\x05\0\0\0\x28",
+        0,
+    );
+    case(
+        b"no byte",
+        b"\x14\0\0\0\x1d\0\x0b\0\x48\0\0\0\0\0\x01\0\0\0\x02\x23\0\0\x13\xb1\x05\0\0\0\x1d",
         0,
     );
     let last =
