@@ -186,10 +186,11 @@ fn damage_token(rng: &mut Rng, body: &mut Vec<u8>, start: usize, size: usize) {
             Tail::Text | Tail::Bytes => {
                 let old = get16(body, field - 2).unwrap_or(0);
                 let to_end = body.len() - field;
-                let new = match rng.below(4) {
+                let new = match rng.below(5) {
                     // Exactly to the body's end, and one byte further.
                     0 => (to_end as u16).to_be_bytes(),
                     1 => (to_end as u16).wrapping_add(1).to_be_bytes(),
+                    2 => [0, 0],
                     _ => odd16(rng, old),
                 };
                 set(body, field - 2, &new);

@@ -30,7 +30,7 @@ pub use input::{any_body, any_input, growth, program_input, random_trail, wild_p
 pub use layout::{raw_file, raw_record, TEXT_NUMBERS, TOKEN_NUMBERS};
 pub use rng::Rng;
 pub use spoilt::{spoilt_body, spoilt_call, spoilt_item, spoilt_token, Spoilt};
-pub use spoilt::{SPOILT_BODIES, SPOILT_CALLS, SPOILT_ITEMS};
+pub use spoilt::{READ_WAYS, SPOILT_BODIES, SPOILT_CALLS, SPOILT_ITEMS};
 pub use stored::{stored_files, StoredFile};
 pub use targeted::{many_faults, targeted};
 pub use token_args::{good_args, TokenArgs};

@@ -27,7 +27,10 @@ pub enum Spoilt {
 
 use Spoilt::*;
 
-/// What can offend where trails are read, by the number of the token.
+/// How texts offend where trails are read.
+pub const READ_WAYS: [Spoilt; 4] = [Early, Last, Empty, LongName];
+
+/// The same, by the number of the token.
 pub const SPOILT_ITEMS: [(u8, Spoilt); 16] = [
     (0x11, Early),
     (0x11, Last),
