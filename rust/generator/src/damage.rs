@@ -169,6 +169,18 @@ fn damage_nanoseconds(rng: &mut Rng, record: &mut [u8]) {
     }
 }
 
+/// Another length for the text or bytes at `field` of a body.
+fn odd_length(rng: &mut Rng, body: &[u8], field: usize) -> [u8; 2] {
+    let to_end = (body.len() - field) as u16;
+    match rng.below(5) {
+        // Exactly to the body's end, and one byte further.
+        0 => to_end.to_be_bytes(),
+        1 => to_end.wrapping_add(1).to_be_bytes(),
+        2 => [0, 0],
+        _ => odd16(rng, get16(body, field - 2).unwrap_or(0)),
+    }
+}
+
 /// Damages the token at `start` of a body.
 fn damage_token(rng: &mut Rng, body: &mut Vec<u8>, start: usize, size: usize) {
     let Some((fixed, tail)) = shape(body[start]) else {
@@ -184,15 +196,7 @@ fn damage_token(rng: &mut Rng, body: &mut Vec<u8>, start: usize, size: usize) {
             Tail::None => damage_bytes(rng, body),
             Tail::Text if rng.chance(2) => spoil(rng, &mut body[field..start + size]),
             Tail::Text | Tail::Bytes => {
-                let old = get16(body, field - 2).unwrap_or(0);
-                let to_end = body.len() - field;
-                let new = match rng.below(5) {
-                    // Exactly to the body's end, and one byte further.
-                    0 => (to_end as u16).to_be_bytes(),
-                    1 => (to_end as u16).wrapping_add(1).to_be_bytes(),
-                    2 => [0, 0],
-                    _ => odd16(rng, old),
-                };
+                let new = odd_length(rng, body, field);
                 set(body, field - 2, &new);
             }
             Tail::Groups => {
