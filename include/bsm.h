@@ -17,7 +17,11 @@
 extern "C" {
 #endif
 
-/* Refusals. */
+/* Refusals. The place that comes with one is the item's start for 1, 3, 4, 5 and 9, the token's for 6 and 7, the asked place for 2.
+   For 8 it is the byte that spoils the text: the first zero byte that is not the last of the bytes that the length counts, or else
+   the last of them, which is not zero; where the length is 0, or a file name's over 1024, the first byte of the length. Places
+   count from the start of the trail or body given. A writer gives place 0, but for a text or name with a zero byte (8, with its
+   place in what was given, unless a name is too long) and for a record's body, which it refuses as bsm_walk_body does. */
 enum {
     BSM_REFUSAL_SHORT = 1,            /* `need` bytes must stand from the item's start on */
     BSM_REFUSAL_PLACE = 2,            /* place beyond the buffer, or totals above the place */
@@ -26,7 +30,7 @@ enum {
     BSM_REFUSAL_TRAILER = 5,          /* no trailer with the record's length */
     BSM_REFUSAL_NOT_A_BODY_TOKEN = 6, /* not a body token's number */
     BSM_REFUSAL_PAST_END = 7,         /* a token runs past its body's end */
-    BSM_REFUSAL_BAD_TEXT = 8,         /* a bad text, or too long a file name */
+    BSM_REFUSAL_BAD_TEXT = 8,         /* a bad text, or too long a file name: the byte that spoils it */
     BSM_REFUSAL_TIME_RANGE = 9,       /* microseconds or nanoseconds out of range */
     BSM_REFUSAL_NO_ROOM = 10,         /* the destination is too small */
     BSM_REFUSAL_TOO_LARGE = 11        /* a value is too large for its field */
@@ -191,11 +195,11 @@ typedef struct {
     uint64_t need;
 } bsm_written;
 
-/* How many tokens a body has, or the first refusal. */
+/* How many tokens a body has, or the first refusal, with places counted from the body's start. */
 bsm_written bsm_walk_body(const uint8_t *body, size_t length);
 
 /* ---- writing: each writes at the start of dst, and answers how many bytes. Texts, names and paths are given without their zero
-   byte, strings of exec tokens each with its own. */
+   byte, strings of exec tokens each with its own. Bytes that are not as many strings as `count` says are 8 with place 0. */
 
 bsm_written bsm_write_path(uint8_t *dst, size_t room, const uint8_t *text, size_t length);
 bsm_written bsm_write_text(uint8_t *dst, size_t room, const uint8_t *text, size_t length);

@@ -1,6 +1,6 @@
 /* Uses the library from C: writes every kind of token, a file token and two records, reads them back, lists them, and tries
-   destinations that are too small and buffers that are not there. What it expects is computed from what it wrote. Exit status 0
-   where every assertion holds. */
+   texts that are spoilt, destinations that are too small and buffers that are not there. What it expects is computed from what it
+   wrote. Exit status 0 where every assertion holds. */
 #undef NDEBUG
 #include <assert.h>
 #include <stdio.h>
@@ -247,6 +247,87 @@ static void line_of_no_item(void)
     assert(refused(bsm_item_line(out, 10, trail, trail_size, record_place), 10, 0));
 }
 
+/* Spoils a byte of the item at a place of a good trail: the item reader, a step and the run name the byte. */
+static void names_byte(uint8_t *t, size_t n, size_t item, size_t at, uint8_t byte, uint64_t place)
+{
+    const uint8_t old = t[at];
+    t[at] = byte;
+    bsm_item i = bsm_item_at(t, n, item);
+    assert(i.kind == BSM_REFUSED && i.number == BSM_REFUSAL_BAD_TEXT && i.place == place && i.need == 0);
+    bsm_step s = bsm_next(t, n, item, 0, 0);
+    assert(s.item.number == BSM_REFUSAL_BAD_TEXT && s.item.place == place && s.place == item);
+    bsm_outcome o = bsm_run(t, n, 0, 0, 0);
+    assert(o.number == BSM_REFUSAL_BAD_TEXT && o.at == place && o.place == item && o.need == 0);
+    t[at] = old;
+    assert(bsm_run(t, n, 0, 0, 0).number == 0);
+}
+
+/* Each byte of a file name, and its length. */
+static void spoil_name(void)
+{
+    uint8_t t[64];
+    const size_t item = bsm_write_record32(REST(t, 0), 11, 72, 0, 1, 2, NULL, 0).written;
+    const size_t n = item + bsm_write_file(REST(t, item), 5, 7, TEXT("20240131")).written, last = n - 1;
+    for (size_t at = item + 11; at < last; at++)
+        names_byte(t, n, item, at, 0, at);
+    names_byte(t, n, item, last, 'x', last);
+    names_byte(t, n, item, item + 10, 0, item + 9); /* the length's second byte: it is 0 then */
+    names_byte(t, n, item, item + 9, 4, item + 9);  /* its first: 1033 */
+}
+
+/* Each byte of a text behind another token: in the record, in the body, and in the body that a record's writer is given. */
+static void spoil_text(void)
+{
+    uint8_t b[32], t[64], d[64];
+    size_t n = bsm_write_iport(REST(b, 0), 22).written;
+    const size_t token = n, text = n + 3;
+    n += bsm_write_text(REST(b, n), TEXT("charter 4711")).written;
+    const size_t item = bsm_write_file(REST(t, 0), 5, 7, TEXT("a")).written, start = item + 19, last = n - 1;
+    const size_t size = item + bsm_write_record32(REST(t, item), 11, 72, 0, 1, 2, b, n).written;
+    for (size_t at = text; at <= last; at++) {
+        const uint8_t old = b[at];
+        b[at] = at == last ? 'x' : 0;
+        names_byte(t, size, item, start + at, b[at], start + at);
+        bsm_token k = bsm_token_at(b, n, token);
+        assert(k.kind == BSM_TOKEN_REFUSED && k.number == BSM_REFUSAL_BAD_TEXT && k.place == at && k.need == 0);
+        assert(refused(bsm_walk_body(b, n), 8, at) && refused(bsm_walk_body(b + token, n - token), 8, at - token));
+        assert(refused(bsm_write_record32(REST(d, 0), 0, 0, 0, 0, 0, b, n), 8, at));
+        assert(refused(bsm_write_record64(REST(d, 0), 0, 0, 0, 0, 0, b, n), 8, at));
+        b[at] = old;
+    }
+}
+
+/* Texts with several faults, and with length 0. */
+static void spoil_texts(void)
+{
+    assert(refused(bsm_walk_body(TEXT("\x28\0\5a\0b\0c")), 8, 4));
+    assert(refused(bsm_walk_body(TEXT("\x28\0\4abcd\x28\0\2\0\0")), 8, 6));
+    assert(refused(bsm_walk_body(TEXT("\x23\0\0")), 8, 1));
+    assert(refused(bsm_walk_body(TEXT("\x2c\0\0\x28\0\0\x2c\0\0")), 8, 4));
+    assert(refused(bsm_walk_body(TEXT("\x2d\1\0\0\0\2\0\0")), 8, 6));
+    assert(refused(bsm_walk_body(TEXT("\x71\1\0\0\0\0\0\0\0\2\0\0")), 8, 10));
+}
+
+/* A zero byte at each place of a text to be written; names too long and bytes that are not strings have place 0. */
+static void spoil_given(void)
+{
+    uint8_t d[64], name[1024];
+    memset(name, 'n', sizeof name);
+    for (size_t at = 0; at < 20; at++) {
+        name[at] = 0;
+        assert(refused(bsm_write_path(REST(d, 0), name, 20), 8, at) && refused(bsm_write_text(REST(d, 0), name, 20), 8, at));
+        assert(refused(bsm_write_arg32(REST(d, 0), 1, 2, name, 20), 8, at));
+        assert(refused(bsm_write_arg64(REST(d, 0), 1, 2, name, 20), 8, at));
+        assert(refused(bsm_write_file(REST(d, 0), 5, 7, name, 20), 8, at));
+        assert(refused(bsm_write_file(REST(d, 0), 5, 7, name, 1023), 8, at));
+        assert(refused(bsm_write_file(REST(d, 0), 5, 7, name, 1024), 8, 0));
+        name[at] = 'n';
+    }
+    assert(refused(bsm_write_file(REST(d, 0), 5, 7, name, 1024), 8, 0));
+    assert(refused(bsm_write_exec_args(REST(d, 0), 2, TEXT("a\0b")), 8, 0));
+    assert(refused(bsm_write_exec_env(REST(d, 0), 1, TEXT("a\0b\0")), 8, 0));
+}
+
 /* Refused writers change no byte, others none beyond their count. */
 static void guard_bytes(void)
 {
@@ -254,7 +335,7 @@ static void guard_bytes(void)
     memset(d, 0xA5, sizeof d);
     memcpy(before, d, sizeof d);
     assert(refused(bsm_write_path(d + 8, 8, TEXT("/tmp/")), 10, 0));
-    assert(refused(bsm_write_path(d + 8, 56, TEXT("/t\0p")), 8, 0));
+    assert(refused(bsm_write_path(d + 8, 56, TEXT("/t\0p")), 8, 2));
     assert(refused(bsm_write_file(d + 8, 56, 0, 1000000, TEXT("name")), 9, 0));
     assert(refused(bsm_write_record32(d + 8, 25, 0, 0, 0, 0, 0, body, 0), 10, 0));
     assert(refused(bsm_write_record32(d + 8, 56, 0, 0, 0, (uint64_t)1 << 32, 0, body, 0), 11, 0));
@@ -398,6 +479,10 @@ int main(void)
     list_trail();
     list_no_line();
     line_of_no_item();
+    spoil_name();
+    spoil_text();
+    spoil_texts();
+    spoil_given();
     guard_bytes();
     name_refusals();
     read_nothing();

@@ -27,7 +27,18 @@ pub enum Reason {
     NotABodyToken = 6,
     /// 7: a token does not end within its body.
     PastEnd = 7,
-    /// 8: a bad text, or a file name that is too long.
+    /// 8: a bad text, or a file name that is too long. A text ends with a
+    /// zero byte, which its length counts, and has no other.
+    ///
+    /// Where something is read, and for the body of a record to be written,
+    /// [`Refusal::place`] is the byte that spoils the text: the first zero
+    /// byte that is not the last, or else the last byte, which is not zero.
+    /// Where the length is 0, or a file name's over 1,024, it is the first
+    /// byte of the length.
+    ///
+    /// Where a text or a name is to be written, it is the zero byte's place
+    /// in what was given; it is 0 for a name too long, whatever is in it, and
+    /// for bytes that are not as many strings as said.
     BadText = 8,
     /// 9: microseconds over 999,999 or nanoseconds over 999,999,999.
     TimeRange = 9,
@@ -88,13 +99,20 @@ impl fmt::Display for Reason {
 /// let short = bsm::item_at(&[0x14], 0).unwrap_err();
 /// assert_eq!(short.reason, bsm::Reason::Short);
 /// assert_eq!(short.to_string(), "refusal 1 at 0: short, needs 5 bytes");
+///
+/// // A file token whose name has a zero byte, at 12, before its last one.
+/// let file = b"\x11\0\0\0\x05\0\0\0\x07\0\x04a\0b\0";
+/// let bad = bsm::item_at(file, 0).unwrap_err();
+/// assert_eq!((bad.reason, bad.place), (bsm::Reason::BadText, 12));
 /// ```
 #[derive(Clone, Copy, Debug, PartialEq, Eq, Hash)]
 pub struct Refusal {
     /// Why.
     pub reason: Reason,
-    /// The place it speaks of: the item's or the token's start, or the
-    /// asked place.
+    /// The place it speaks of: the asked place, the item's or the token's
+    /// start, or, for [`Reason::BadText`], the byte that spoils the text. It
+    /// counts from the start of the trail or body that was lent. What a
+    /// writer refuses by itself has 0 here, but for a zero byte in a text.
     pub place: usize,
     /// For [`Reason::Short`] how many bytes must stand from the item's start
     /// on before the answer changes; otherwise 0.

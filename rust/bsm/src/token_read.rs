@@ -46,7 +46,16 @@ pub fn text_at(body: &[u8], place: usize) -> Option<&[u8]> {
     told_part(body, told)
 }
 
-/// How many tokens a body has, or the first refusal in it.
+/// How many tokens a body has, or the first refusal in it, with places
+/// counted from the body's start.
+///
+/// ```
+/// use bsm::{walk_body, Reason};
+///
+/// // A port, and a text of three bytes whose last one is not zero.
+/// let refused = walk_body(b"\x2c\0\x16\x28\0\x03abc").unwrap_err();
+/// assert_eq!((refused.reason, refused.place), (Reason::BadText, 8));
+/// ```
 #[inline]
 pub fn walk_body(body: &[u8]) -> Result<usize, Refusal> {
     // SAFETY: the pointer and the length are those of a lent slice.

@@ -9,8 +9,9 @@ use crate::token::{NewToken, Party, Token};
 /// Writes a body token and answers how many bytes it took.
 ///
 /// Refused, in this order, are a text, an opaque or groups too large for
-/// their length field, a text with a zero byte or strings that do not agree
-/// with their count, and a destination that is too small.
+/// their length field, a text with a zero byte, at its place in the text, or
+/// strings that do not agree with their count, and a destination that is too
+/// small.
 ///
 /// ```
 /// use bsm::{token_at, write_token, NewToken, Reason, Token};
@@ -22,6 +23,8 @@ use crate::token::{NewToken, Party, Token};
 ///
 /// let refused = write_token(&mut body[..4], &NewToken::Seq { sequence: 1 });
 /// assert_eq!(refused.unwrap_err().reason, Reason::NoRoom);
+/// let refused = write_token(&mut body, &NewToken::Path { text: b"/e\0c" });
+/// assert_eq!(refused.unwrap_err().place, 2);
 /// # Ok::<(), bsm::Refusal>(())
 /// ```
 #[inline]
@@ -131,8 +134,19 @@ fn party<P: Copy>(writer: PartyWriter<P>, dst: &mut [u8], party: &Party<P>) -> s
 /// Writes a file token and answers how many bytes it took. The name comes
 /// without its zero byte and has at most 1,023 bytes.
 ///
-/// Refused, in this order, are microseconds over 999,999, a name with a zero
-/// byte or too long, and a destination that is too small.
+/// Refused, in this order, are microseconds over 999,999, a name too long, or
+/// one with a zero byte, at its place in the name, and a destination that is
+/// too small.
+///
+/// ```
+/// let mut trail = [0; 64];
+/// let size = bsm::write_file(&mut trail, 5, 7, b"20251115")?;
+/// assert_eq!(bsm::name_at(&trail[..size], 0), Some(&b"20251115"[..]));
+///
+/// let refused = bsm::write_file(&mut trail, 5, 7, b"2025\01115");
+/// assert_eq!(refused.unwrap_err().place, 4);
+/// # Ok::<(), bsm::Refusal>(())
+/// ```
 #[inline]
 pub fn write_file(
     dst: &mut [u8],
@@ -158,8 +172,8 @@ pub fn write_file(
 ///
 /// Refused, in this order, are more than 65,535 bytes in all, times too
 /// large for a header32, nanoseconds over 999,999,999, the body's first
-/// bad token, at its place in the body, and a destination that is too
-/// small.
+/// bad token, as [`walk_body`](crate::walk_body) refuses it, and a
+/// destination that is too small.
 ///
 /// ```
 /// use bsm::{item_at, write_record, Header, HeaderKind, Item};

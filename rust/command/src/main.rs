@@ -11,6 +11,7 @@ mod form;
 mod json;
 mod output;
 mod reading;
+mod spoilt;
 mod status;
 mod system;
 mod text;

@@ -3,6 +3,7 @@
 use crate::choice::Choice;
 use crate::form::Form;
 use crate::output::{say, title};
+use crate::spoilt::Spoilt;
 use crate::status::Status;
 use bsm::{tokens, Item, Items, Reason, Refusal, State, Token};
 use std::ffi::OsStr;
@@ -69,9 +70,9 @@ pub fn tokens_of<'a>(item: &Item<'a>) -> impl Iterator<Item = Token<'a>> {
     tokens(body).map(|token| token.expect("the body of an accepted record has no other tokens"))
 }
 
-/// Says why a reading stopped, a refusal with its number, place and need,
-/// and answers the status that it comes to.
-pub fn say_stop(name: &OsStr, trail: &[u8], stop: Stop) -> Status {
+/// Says why a reading stopped at a state, a refusal with its number, place
+/// and need, and answers the status that it comes to.
+pub fn say_stop(name: &OsStr, trail: &[u8], state: State, stop: Stop) -> Status {
     let refusal = match stop {
         Stop::End => return Status::Ended,
         Stop::Told => return Status::Interrupted,
@@ -85,7 +86,11 @@ pub fn say_stop(name: &OsStr, trail: &[u8], stop: Stop) -> Status {
     let numbers = format!("refusal {}, place {place}, need {need}", reason.number());
     let name = title(name);
     if reason != Reason::Short {
-        say(format_args!("{name}: refused: {reason} ({numbers})"));
+        let why = match Spoilt::find(trail, state.place, &refusal) {
+            Some(spoilt) => spoilt.to_string(),
+            None => reason.to_string(),
+        };
+        say(format_args!("{name}: refused: {why} ({numbers})"));
         return Status::Refused;
     }
     let there = trail.len() - place;

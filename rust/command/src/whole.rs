@@ -43,7 +43,7 @@ fn show_one(out: &mut Output, name: &OsStr, trail: &[u8], view: &View) -> io::Re
     view.form.write_last(out, trail, state)?;
     // Before what is said of it on standard error.
     out.flush()?;
-    Ok(say_stop(name, trail, stop))
+    Ok(say_stop(name, trail, state, stop))
 }
 
 /// The bytes of a file, or of standard input for `-`.

@@ -38,7 +38,7 @@ impl<'a> Growing<'a> {
         tally.input();
         let trail = &trail.to_vec()[..];
         let plain = reference::run(trail, self.first);
-        tally.answer(plain.refusal);
+        tally.item_answer(trail, plain.state.place, plain.refusal);
         let expected = expect::run(plain);
 
         let found = bsm::run(trail, self.run);

@@ -22,10 +22,11 @@ pub fn same_item<'a>(tally: &mut Tally, trail: &'a [u8], place: usize) -> Answer
     };
     let found = bsm::item_at(trail, place);
     assert_eq!(found, expected, "item at {place} of {}", show(trail));
-    tally.answer(match plain {
+    let refusal = match plain {
         Answer::Refused(refusal) => Some(refusal),
         _ => None,
-    });
+    };
+    tally.item_answer(trail, place, refusal);
 
     let parts = (bsm::body_at(trail, place), bsm::name_at(trail, place));
     match expected {
@@ -94,7 +95,7 @@ pub fn same_run(tally: &mut Tally, trail: &[u8], state: State) -> Run {
         "run from {state:?} of {}",
         show(trail)
     );
-    tally.answer(plain.refusal);
+    tally.item_answer(trail, plain.state.place, plain.refusal);
     plain
 }
 

@@ -19,6 +19,8 @@ pub const STATES: usize = 100_000;
 pub const BODIES: usize = 500_000;
 /// Writes.
 pub const WRITES: usize = 150_000;
+/// Writes of records around bodies of every kind.
+pub const RECORDS: usize = 60_000;
 /// Trails cut at every byte.
 pub const EVERY_BYTE: usize = 150_000;
 /// Trails that grow in random steps.
@@ -44,6 +46,7 @@ pub const TOTAL: usize = MIXED
     + STATES
     + BODIES
     + WRITES
+    + RECORDS
     + EVERY_BYTE
     + RANDOM_STEPS
     + WAITS

@@ -158,6 +158,28 @@ const TOKENS: [&str; 20] = [
     "process64",
 ];
 
+/// The name of an item's first token or of a body token.
+fn name_of(number: u8) -> &'static str {
+    let tokens = TOKEN_NUMBERS.into_iter().zip(TOKENS);
+    let mut all = ITEMS.into_iter().chain(tokens);
+    all.find(|(known, _)| *known == number)
+        .map_or("?", |(_, name)| name)
+}
+
+/// What offends, in a few words.
+fn words_for(spoilt: Spoilt) -> &'static str {
+    match spoilt {
+        Spoilt::Early => "a zero byte too early",
+        Spoilt::Last => "no zero byte at the end",
+        Spoilt::Empty => "length 0",
+        Spoilt::LongName => "length over 1,024",
+        Spoilt::ZeroGiven => "a zero byte, given to the writer",
+        Spoilt::LongGiven => "too long, given to the writer",
+        Spoilt::LongZeroGiven => "too long and a zero byte, given to the writer",
+        Spoilt::NotStrings => "not the strings said, given to the writer",
+    }
+}
+
 impl Display for Soaked {
     fn fmt(&self, f: &mut Formatter<'_>) -> fmt::Result {
         let tally = &self.tally;
@@ -167,6 +189,12 @@ impl Display for Soaked {
         writeln!(f, "{:>12}  not refused", none)?;
         for (at, times) in refusals.iter().enumerate() {
             writeln!(f, "{times:>12}  {:>2} {}", at + 1, REASONS[at])?;
+        }
+        writeln!(f, "refusal 8, by what offends")?;
+        for kind in SPOILT_ITEMS.into_iter().chain(SPOILT_CALLS) {
+            let (number, spoilt) = kind;
+            let (times, name) = (tally.spoilt_times(kind), name_of(number));
+            writeln!(f, "{times:>12}  {number:02X} {name}: {}", words_for(spoilt))?;
         }
         writeln!(f, "items accepted")?;
         for (number, name) in ITEMS {

@@ -1,8 +1,11 @@
 //! Counting what was compared.
 
-use generator::TOKEN_NUMBERS;
+use generator::{spoilt_body, spoilt_call, spoilt_item, spoilt_token};
+use generator::{Spoilt, WriteArgs, TOKEN_NUMBERS};
+use reference::Refusal;
+use std::collections::BTreeMap;
 
-/// How often a refusal or a token kind must come at least.
+/// How often a refusal, a kind of it or a token kind must come at least.
 const OFTEN: usize = 100;
 
 /// Counters of one test.
@@ -12,6 +15,7 @@ pub struct Tally {
     ends: usize,
     refusals: [usize; 12],
     kinds: [usize; 256],
+    texts: BTreeMap<(u8, Spoilt), usize>,
 }
 
 impl Default for Tally {
@@ -28,6 +32,7 @@ impl Tally {
             ends: 0,
             refusals: [0; 12],
             kinds: [0; 256],
+            texts: BTreeMap::new(),
         }
     }
 
@@ -42,10 +47,44 @@ impl Tally {
     }
 
     /// One answer: a refusal, or none.
-    pub fn answer(&mut self, refusal: Option<reference::Refusal>) {
+    pub fn answer(&mut self, refusal: Option<Refusal>) {
         match refusal {
             None => self.ends += 1,
             Some(refusal) => self.refusals[usize::from(refusal.number)] += 1,
+        }
+    }
+
+    /// The same of the item at `start`; for 8 also what offends.
+    pub fn item_answer(&mut self, trail: &[u8], start: usize, refusal: Option<Refusal>) {
+        self.answer(refusal);
+        self.spoilt(refusal, |place| spoilt_item(trail, start, place));
+    }
+
+    /// The same of a whole body.
+    pub fn body_answer(&mut self, body: &[u8], refusal: Option<Refusal>) {
+        self.answer(refusal);
+        self.spoilt(refusal, |place| spoilt_body(body, place));
+    }
+
+    /// The same of the token at `start`.
+    pub fn token_answer(&mut self, body: &[u8], start: usize, refusal: Option<Refusal>) {
+        self.answer(refusal);
+        self.spoilt(refusal, |place| spoilt_token(body, start, place));
+    }
+
+    /// The same of a writer.
+    pub fn write_answer(&mut self, args: &WriteArgs, refusal: Option<Refusal>) {
+        self.answer(refusal);
+        self.spoilt(refusal, |place| spoilt_call(args, place));
+    }
+
+    /// Counts what offends where a refusal is 8.
+    fn spoilt(&mut self, refusal: Option<Refusal>, told: impl Fn(usize) -> (u8, Spoilt)) {
+        if let Some(Refusal {
+            number: 8, place, ..
+        }) = refusal
+        {
+            *self.texts.entry(told(place)).or_insert(0) += 1;
         }
     }
 
@@ -65,6 +104,9 @@ impl Tally {
         for (sum, more) in self.kinds.iter_mut().zip(other.kinds) {
             *sum += more;
         }
+        for (kind, more) in &other.texts {
+            *self.texts.entry(*kind).or_insert(0) += more;
+        }
     }
 
     /// How often no refusal came, and each of the refusals from 1 on.
@@ -75,6 +117,12 @@ impl Tally {
     /// How often tokens or items of this kind came.
     pub fn times(&self, number: u8) -> usize {
         self.kinds[usize::from(number)]
+    }
+
+    /// How often the text of the token or file token with this number offended
+    /// in this way.
+    pub fn spoilt_times(&self, kind: (u8, Spoilt)) -> usize {
+        self.texts.get(&kind).copied().unwrap_or(0)
     }
 
     /// Prints the counters and asserts the share of inputs, and that each of
@@ -91,6 +139,34 @@ impl Tally {
         for number in refusals {
             let times = self.refusals[usize::from(number)];
             assert!(times >= OFTEN, "{test}: refusal {number} {times} times");
+        }
+    }
+
+    fn show_texts(&self, test: &str) {
+        let kinds = self.texts.iter();
+        let shown: Vec<String> = kinds
+            .map(|((number, way), times)| format!("{number:02X} {way:?} {times}"))
+            .collect();
+        println!("{test}: texts {}", shown.join(", "));
+    }
+
+    /// Prints what offended in texts that are refused with 8, and asserts that
+    /// each of these kinds came often.
+    pub fn finish_texts(&self, test: &str, kinds: &[(u8, Spoilt)]) {
+        self.show_texts(test);
+        for kind in kinds {
+            let times = self.spoilt_times(*kind);
+            assert!(times >= OFTEN, "{test}: {kind:02X?} {times} times");
+        }
+    }
+
+    /// The same of the ways to offend, whatever the token.
+    pub fn finish_ways(&self, test: &str, ways: &[Spoilt]) {
+        self.show_texts(test);
+        for way in ways {
+            let of_it = self.texts.iter().filter(|((_, found), _)| found == way);
+            let times: usize = of_it.map(|(_, times)| times).sum();
+            assert!(times >= OFTEN, "{test}: {way:?} {times} times");
         }
     }
 

@@ -25,10 +25,11 @@ pub fn same_token(tally: &mut Tally, body: &[u8], place: usize) {
     let string = bsm::text_at(body, place);
     let plain_string = reference::text_at(body, place);
     assert_eq!(string.unwrap_or_default(), plain_string);
-    tally.answer(match plain {
+    let refusal = match plain {
         TokenAnswer::Refused(refusal) => Some(refusal),
         _ => None,
-    });
+    };
+    tally.token_answer(body, place, refusal);
     match (found, plain) {
         (Ok(Some(found)), TokenAnswer::Token { start, length, .. }) => {
             tally.kind(found.token.number());
@@ -82,7 +83,7 @@ pub fn same_body(tally: &mut Tally, body: &[u8]) {
     let expected = plain.map_err(expect::refusal);
     let found = bsm::walk_body(body);
     assert_eq!(found, expected, "walk of {}", show(body));
-    tally.answer(plain.err());
+    tally.body_answer(body, plain.err());
 
     let mut tokens = bsm::tokens(body);
     let mut place = 0;

@@ -112,9 +112,7 @@ fn token(rng: &mut Rng, number: u8) -> TokenArgs {
                 args.bytes = values::letters(rng, length);
             }
             if !large || rng.chance(3) {
-                let middle = rng.below(args.bytes.len());
-                let at = rng.pick(&[0, middle, args.bytes.len()]);
-                args.bytes.insert(at, 0);
+                insert_zero(rng, &mut args.bytes);
             }
         }
         Tail::Bytes if large => {
@@ -130,6 +128,17 @@ fn token(rng: &mut Rng, number: u8) -> TokenArgs {
         Tail::Strings => bad_strings(rng, &mut args),
     }
     args
+}
+
+/// Puts a zero byte into a text, at its start, at its end or between, and
+/// sometimes one more.
+fn insert_zero(rng: &mut Rng, text: &mut Vec<u8>) {
+    let times = if rng.chance(4) { 2 } else { 1 };
+    for _ in 0..times {
+        let middle = rng.below(text.len());
+        let at = rng.pick(&[0, middle, text.len()]);
+        text.insert(at, 0);
+    }
 }
 
 /// Makes strings and count of an exec token disagree.
@@ -158,13 +167,12 @@ fn file(rng: &mut Rng) -> WriteArgs {
     if rng.chance(4) {
         microseconds = values::over(rng, 999_999, 32) as u32;
     }
-    if rng.chance(4) {
+    if rng.chance(2) {
         let length = rng.pick(&[1_022, 1_023, 1_024, 1_025, 70_000]);
         name = values::letters(rng, length);
     }
-    if rng.chance(4) {
-        let at = rng.between(0, name.len());
-        name.insert(at, 0);
+    if rng.chance(3) {
+        insert_zero(rng, &mut name);
     }
     WriteArgs::File {
         seconds: rng.u32(),

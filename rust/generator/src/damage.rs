@@ -3,6 +3,7 @@
 use crate::layout::{framed, get16, get32, header_size, items, set, shape, tokens};
 use crate::layout::{Tail, TOKEN_NUMBERS};
 use crate::rng::Rng;
+use crate::texts::spoil;
 
 /// Damages a trail in one to three ways. Now and then it stays good.
 pub fn damage(rng: &mut Rng, trail: &mut Vec<u8>) {
@@ -102,20 +103,6 @@ fn odd32(rng: &mut Rng, old: usize, bounds: &[u32]) -> [u8; 4] {
     new.to_be_bytes()
 }
 
-/// Damages a text that ends with its zero byte.
-fn damage_text(rng: &mut Rng, text: &mut [u8]) {
-    let at = rng.below(text.len());
-    match rng.below(4) {
-        0 | 1 => set(text, at, &[0]),
-        2 => {
-            if let Some(last) = text.last_mut() {
-                *last = rng.byte().max(1);
-            }
-        }
-        _ => set(text, 0, &[0]),
-    }
-}
-
 /// Damages a file token in place.
 fn damage_file(rng: &mut Rng, file: &mut [u8]) {
     match rng.below(6) {
@@ -128,7 +115,7 @@ fn damage_file(rng: &mut Rng, file: &mut [u8]) {
             let length = get16(file, 9).unwrap_or(0);
             set(file, 9, &odd16(rng, length));
         }
-        _ => damage_text(rng, &mut file[11..]),
+        _ => spoil(rng, &mut file[11..]),
     }
 }
 
@@ -182,6 +169,18 @@ fn damage_nanoseconds(rng: &mut Rng, record: &mut [u8]) {
     }
 }
 
+/// Another length for the text or bytes at `field` of a body.
+fn odd_length(rng: &mut Rng, body: &[u8], field: usize) -> [u8; 2] {
+    let to_end = (body.len() - field) as u16;
+    match rng.below(5) {
+        // Exactly to the body's end, and one byte further.
+        0 => to_end.to_be_bytes(),
+        1 => to_end.wrapping_add(1).to_be_bytes(),
+        2 => [0, 0],
+        _ => odd16(rng, get16(body, field - 2).unwrap_or(0)),
+    }
+}
+
 /// Damages the token at `start` of a body.
 fn damage_token(rng: &mut Rng, body: &mut Vec<u8>, start: usize, size: usize) {
     let Some((fixed, tail)) = shape(body[start]) else {
@@ -195,16 +194,9 @@ fn damage_token(rng: &mut Rng, body: &mut Vec<u8>, start: usize, size: usize) {
         3 => body.truncate(start + rng.below(size)),
         _ => match tail {
             Tail::None => damage_bytes(rng, body),
-            Tail::Text if rng.chance(2) => damage_text(rng, &mut body[field..start + size]),
+            Tail::Text if rng.chance(2) => spoil(rng, &mut body[field..start + size]),
             Tail::Text | Tail::Bytes => {
-                let old = get16(body, field - 2).unwrap_or(0);
-                let to_end = body.len() - field;
-                let new = match rng.below(4) {
-                    // Exactly to the body's end, and one byte further.
-                    0 => (to_end as u16).to_be_bytes(),
-                    1 => (to_end as u16).wrapping_add(1).to_be_bytes(),
-                    _ => odd16(rng, old),
-                };
+                let new = odd_length(rng, body, field);
                 set(body, field - 2, &new);
             }
             Tail::Groups => {
@@ -216,7 +208,7 @@ fn damage_token(rng: &mut Rng, body: &mut Vec<u8>, start: usize, size: usize) {
                 };
                 set(body, field - 2, &new);
             }
-            Tail::Strings if rng.chance(3) => damage_text(rng, &mut body[field..start + size]),
+            Tail::Strings if rng.chance(3) => spoil(rng, &mut body[field..start + size]),
             Tail::Strings => {
                 let old = get32(body, field - 4).unwrap_or(0);
                 let new = odd32(rng, old, &[0, 1, 255, 65_536, 1 << 31, u32::MAX]);

@@ -78,7 +78,7 @@ pub fn wild_state(rng: &mut Rng, trail_len: usize) -> State {
 /// A trail of any kind, and a state to read it from, mostly fresh.
 pub fn any_input(rng: &mut Rng) -> (Vec<u8>, State) {
     let items = rng.pick(&[1, 1, 2, 3, 6]);
-    let trail = match rng.below(20) {
+    let trail = match rng.below(24) {
         0..=2 => good_trail(rng, items),
         3..=9 => {
             let mut trail = good_trail(rng, items);
@@ -89,6 +89,8 @@ pub fn any_input(rng: &mut Rng) -> (Vec<u8>, State) {
             let number = rng.between(1, 9) as u8;
             return targeted(rng, number);
         }
+        // 8 comes in many kinds.
+        20..=23 => return targeted(rng, 8),
         15..=17 => {
             let mut trail = good_trail(rng, items / 2);
             trail.extend(many_faults(rng));
@@ -119,7 +121,7 @@ pub fn any_body(rng: &mut Rng) -> Vec<u8> {
                 *first = rng.pick(&TOKEN_NUMBERS);
             }
         }
-        2 | 3 => {
+        2..=4 => {
             let number = rng.pick(&[6, 7, 8, 8]);
             body = bad_body(rng, number);
         }

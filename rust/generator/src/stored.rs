@@ -45,7 +45,9 @@ fn inputs() -> Vec<(&'static str, Vec<u8>)> {
     all.extend(cuts());
     all.extend(bad_items());
     all.extend(bad_bodies());
-    all.extend(bad_names_and_times());
+    all.extend(bad_texts());
+    all.extend(bad_names());
+    all.extend(bad_times());
     all.extend(sizes());
     all
 }
@@ -103,25 +105,59 @@ fn bad_items() -> Vec<(&'static str, Vec<u8>)> {
     ]
 }
 
-/// Refusals 6, 7 and 8 of a body.
+/// Refusals 6 and 7 of a body.
 fn bad_bodies() -> Vec<(&'static str, Vec<u8>)> {
     let between = joined(&[return32(), vec![0x00], return32()]);
     vec![
         ("no6_number", raw_record(&HEADER, &between)),
         ("no7_end", raw_record(&HEADER, b"\x2c\0")),
         ("no7_strings", raw_record(&HEADER, b"\x3c\0\0\0\x02ab\0cd")),
-        ("no8_text", raw_record(&HEADER, b"\x28\0\x03\0a\0")),
     ]
 }
 
-/// Refusal 8 of a file name, and 9.
-fn bad_names_and_times() -> Vec<(&'static str, Vec<u8>)> {
+/// Refusal 8 of a body: a zero byte too early, at a text's start and inside
+/// a path that has another one, a last byte that is not zero, and a length
+/// of 0.
+fn bad_texts() -> Vec<(&'static str, Vec<u8>)> {
+    let wide = Header {
+        number: 0x74,
+        ..HEADER
+    };
+    let between = |token: &[u8]| joined(&[return32(), token.to_vec(), return32()]);
+    let zeros = between(b"\x23\0\x06/a\0b\0\0");
+    let last = between(b"\x2d\x01\0\0\0\x02\0\x03abc");
+    let length = between(b"\x71\x01\0\0\0\0\0\0\0\x02\0\0");
+    vec![
+        ("no8_text", raw_record(&HEADER, b"\x28\0\x03\0a\0")),
+        ("no8_zeros", joined(&[file_a(), raw_record(&wide, &zeros)])),
+        ("no8_last", joined(&[file_a(), raw_record(&HEADER, &last)])),
+        (
+            "no8_length",
+            joined(&[smallest(), raw_record(&wide, &length)]),
+        ),
+    ]
+}
+
+/// Refusal 8 of a file name: a zero byte too early (case 13), a last byte
+/// that is not zero, a length of 0, and one over 1,024.
+fn bad_names() -> Vec<(&'static str, Vec<u8>)> {
+    let long = joined(&[vec![b'n'; 1_024], vec![0]]);
+    let behind = |file: Vec<u8>| joined(&[smallest(), file, smallest()]);
+    vec![
+        ("no8_name", raw_file(5, 7, 3, b"\0a\0")),
+        ("no8_name_last", behind(raw_file(5, 7, 3, b"abc"))),
+        ("no8_name_length", behind(raw_file(5, 7, 0, b""))),
+        ("no8_name_long", behind(raw_file(5, 7, 1_025, &long))),
+    ]
+}
+
+/// Refusal 9.
+fn bad_times() -> Vec<(&'static str, Vec<u8>)> {
     let late = Header {
         nanoseconds: 1_000_000_000,
         ..HEADER
     };
     vec![
-        ("no8_name", raw_file(5, 7, 3, b"\0a\0")),
         ("no9_file", raw_file(5, 1_000_000, 2, b"a\0")),
         ("no9_header", joined(&[smallest(), raw_record(&late, b"")])),
     ]

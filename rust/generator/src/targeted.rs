@@ -4,6 +4,7 @@ use crate::damage::damage_body;
 use crate::good::{good_body, good_file, good_header, good_record, good_token, good_trail};
 use crate::layout::{header_size, raw_file, raw_record, set, shape, TOKEN_NUMBERS};
 use crate::rng::Rng;
+use crate::texts::{bad_name, bad_text, bad_text_token};
 use crate::values;
 use reference::State;
 
@@ -208,45 +209,6 @@ fn overlong_token(rng: &mut Rng) -> Vec<u8> {
         }
     }
     token
-}
-
-/// Bytes, zero byte included, that are not a good text.
-fn bad_text(rng: &mut Rng) -> Vec<u8> {
-    let mut text = values::text(rng);
-    text.push(0);
-    let last = text.len() - 1;
-    match rng.below(4) {
-        0 => text.clear(),
-        1 => text[last] = rng.byte().max(1),
-        2 if last > 0 => text[rng.below(last)] = 0,
-        _ => text.insert(rng.below(2), 0),
-    }
-    text
-}
-
-/// A token with a bad text and the right length for it.
-fn bad_text_token(rng: &mut Rng) -> Vec<u8> {
-    let text = bad_text(rng);
-    let number = rng.pick(&[0x23, 0x28, 0x2D, 0x71]);
-    let fixed = shape(number).map_or(3, |shape| shape.0);
-    let mut token = vec![number];
-    token.extend(rng.bytes(fixed - 3));
-    token.extend((text.len() as u16).to_be_bytes());
-    token.extend(text);
-    token
-}
-
-/// A file token with a bad name.
-fn bad_name(rng: &mut Rng) -> Vec<u8> {
-    let micros = values::fraction(rng, 999_999);
-    let mut name = bad_text(rng);
-    if rng.chance(3) {
-        // Too long, with or without bytes behind it.
-        let length = rng.pick(&[1_025, 1_026, 2_048, u16::MAX]);
-        name.truncate(rng.between(0, name.len()));
-        return raw_file(rng.u32(), micros, length, &name);
-    }
-    raw_file(rng.u32(), micros, name.len() as u16, &name)
 }
 
 /// An item with its time fraction over the bound.

@@ -28,7 +28,7 @@ fn calls_are_good_or_refused_in_every_way() {
                 }
                 Err(refusal) => {
                     assert_eq!(refusal.need, 0);
-                    assert!(refusal.place == 0 || kind == "record");
+                    assert!(refusal.place == 0 || refusal.number == 8 || kind == "record");
                     0
                 }
             };
@@ -57,6 +57,51 @@ fn calls_are_good_or_refused_in_every_way() {
         assert!(numbers[&expected] >= 20, "{expected:?}");
     }
     assert_eq!(numbers.len(), 16);
+}
+
+/// Where the zero byte stands that a text to be written is refused for.
+fn zero_in(given: &[u8], place: usize) -> &'static str {
+    let zeros: Vec<usize> = (0..given.len()).filter(|&at| given[at] == 0).collect();
+    assert_eq!(zeros.first(), Some(&place));
+    match place {
+        0 => "first",
+        _ if place + 1 == given.len() => "last",
+        _ if zeros.len() > 1 => "first of two",
+        _ => "between",
+    }
+}
+
+/// 8 reports the place of a zero byte, which may be anywhere, and 0 for a
+/// name too long and for bytes that are not strings.
+#[test]
+fn spoilt_arguments_of_every_kind() {
+    let mut rng = Rng::new(2);
+    let mut kinds = BTreeMap::new();
+    let calls = (0..3_000).flat_map(|_| write_calls(&mut rng));
+    for WriteCall { args, .. } in calls {
+        let refused = args.write(&mut vec![0; args.size()]).err();
+        let (given, refusal) = match (&args, refused) {
+            (WriteArgs::Token(args), Some(refusal)) => (&args.bytes, refusal),
+            (WriteArgs::File { name, .. }, Some(refusal)) => (name, refusal),
+            _ => continue,
+        };
+        if refusal.number != 8 {
+            continue;
+        }
+        let kind = spoilt_call(&args, refusal.place);
+        let which = match (kind.1, refusal.place) {
+            (Spoilt::ZeroGiven, place) => zero_in(given, place),
+            (_, 0) => "0",
+            other => panic!("{other:?}"),
+        };
+        *kinds.entry((kind, which)).or_insert(0) += 1;
+    }
+    println!("{kinds:02X?}");
+    assert_eq!(kinds.len(), 5 * 4 + 4);
+    assert!(kinds.values().all(|&times: &usize| times >= 20));
+    for kind in SPOILT_CALLS {
+        assert!(kinds.keys().any(|&(found, _)| found == kind), "{kind:02X?}");
+    }
 }
 
 /// What was written reads back as what was given.

@@ -11,7 +11,8 @@
 pub struct Refusal {
     /// Which of the numbers 1 to 12.
     pub number: u8,
-    /// The place the refusal speaks of.
+    /// The place the refusal speaks of; for number 8 that of the first byte
+    /// that offends (paper 02, P1).
     pub place: usize,
     /// For number 1 the bytes that must stand from the item's start on;
     /// otherwise 0.

@@ -134,7 +134,7 @@ fn case_12_file() {
 #[test]
 fn case_13_early_zero_in_the_name() {
     let trail = hex("11 00000005 00000007 0003 00 61 00");
-    assert_eq!(refused(&trail, 0), (8, 0, 0));
+    assert_eq!(refused(&trail, 0), (8, 11, 0));
 }
 
 #[test]
@@ -170,7 +170,7 @@ fn case_17_listing() {
 fn places_are_those_of_the_buffer() {
     let mut trail = hex("11 00000005 00000007 0002 61 00");
     trail.extend_from_slice(&case_nine("27 00 00000000 28 0001 61"));
-    assert_eq!(refused(&trail, 13), (8, 13 + 19 + 6, 0));
+    assert_eq!(refused(&trail, 13), (8, 13 + 19 + 6 + 3, 0));
     assert_eq!(refused(&trail, 12), (3, 12, 0));
     assert_eq!(item_at(&trail, trail.len()), Answer::End);
     let end = trail.len() + 1;
@@ -190,14 +190,103 @@ fn file_order() {
         assert_eq!(refused(&whole[..cut], 0), (1, 0, 11));
     }
     assert_eq!(refused(&fixed(1_000_000, 0), 0), (9, 0, 0));
-    assert_eq!(refused(&fixed(999_999, 0), 0), (8, 0, 0));
-    assert_eq!(refused(&fixed(999_999, 1_025), 0), (8, 0, 0));
+    assert_eq!(refused(&fixed(999_999, 0), 0), (8, 9, 0));
+    assert_eq!(refused(&fixed(999_999, 1_025), 0), (8, 9, 0));
+    assert_eq!(refused(&fixed(999_999, 65_535), 0), (8, 9, 0));
     assert_eq!(refused(&fixed(999_999, 1_024), 0), (1, 0, 1_035));
     let mut unended = fixed(0, 2);
     unended.push(b'a');
     assert_eq!(refused(&unended, 0), (1, 0, 13));
     unended.push(b'b');
-    assert_eq!(refused(&unended, 0), (8, 0, 0));
+    assert_eq!(refused(&unended, 0), (8, 12, 0));
+}
+
+/// Paper 02, P1: the byte that spoils a file name, in a trail where the file
+/// token is the second item.
+#[test]
+fn file_names_report_the_byte() {
+    let before = case_nine("");
+    for (length_and_name, place) in [
+        ("0003 00 61 00", 11), // a zero byte before the last
+        ("0003 61 00 00", 12),
+        ("0004 61 00 00 00", 12), // the first of two
+        ("0003 61 00 62", 12),    // before a last byte that is not zero
+        ("0003 61 62 63", 13),    // the last byte is not zero
+        ("0001 61", 11),
+        ("0000", 9), // no byte at all
+        ("0000 61 00", 9),
+        ("0401", 9), // 1,025 bytes, there or not
+        ("0401 00", 9),
+    ] {
+        let mut trail = before.clone();
+        trail.extend(hex(&format!("11 00000005 00000007 {length_and_name}")));
+        assert_eq!(refused(&trail, 26), (8, 26 + place, 0), "{length_and_name}");
+        let stopped = run(&trail, State::default());
+        assert_eq!(
+            stopped.refusal.map(|r| (r.number, r.place)),
+            Some((8, 26 + place))
+        );
+        assert_eq!(stopped.state.place, 26);
+        trail.extend(hex("00 FF 11"));
+        assert_eq!(refused(&trail, 26), (8, 26 + place, 0), "{length_and_name}");
+    }
+}
+
+/// The same of names of 1,024 and 1,025 bytes.
+#[test]
+fn long_file_names_report_the_byte() {
+    let file = |name: &[u8]| {
+        let mut token = hex("11 00000005 00000007");
+        token.extend((name.len() as u16).to_be_bytes());
+        token.extend(name);
+        token
+    };
+    let mut name = vec![b'n'; 1_024];
+    assert_eq!(refused(&file(&name), 0), (8, 11 + 1_023, 0));
+    name[1_022] = 0;
+    assert_eq!(refused(&file(&name), 0), (8, 11 + 1_022, 0));
+    name[1_023] = 0;
+    assert_eq!(refused(&file(&name), 0), (8, 11 + 1_022, 0));
+    name[1_022] = b'n';
+    let good = file(&name);
+    assert!(matches!(
+        item_at(&good, 0),
+        Answer::Item(Item::File { size: 1_035, .. })
+    ));
+    for name in [[&name[..1_023], b"n\0"].concat(), vec![0; 1_025]] {
+        assert_eq!(refused(&file(&name), 0), (8, 9, 0));
+    }
+}
+
+/// Paper 02, P1: the byte that spoils a token's text, moved to the places of
+/// the trail, behind either header.
+#[test]
+fn texts_of_records_report_the_byte() {
+    for (token, at) in [
+        ("23 0003 2F 00 00", 4),
+        ("28 0003 61 62 63", 5),
+        ("28 0000", 1),
+        ("2D 01 00000000 0002 00 00", 8),
+        ("2D 01 00000000 0000", 6),
+        ("71 01 0000000000000000 0002 61 62", 13),
+        ("71 01 0000000000000000 0000", 10),
+    ] {
+        let body = format!("2C 0016 {token} 27 00 00000000");
+        let mut trail = hex("11 00000005 00000007 0002 61 00");
+        trail.extend(case_nine(&body));
+        assert_eq!(refused(&trail, 13), (8, 13 + 19 + 3 + at, 0), "{token}");
+        let mut wide = header64(&hex(&body));
+        assert_eq!(refused(&wide, 0), (8, 27 + 3 + at, 0), "{token}");
+        wide[4] -= 1;
+        assert_eq!(refused(&wide, 0), (5, 0, 0), "5 comes first");
+    }
+}
+
+/// A header64 record around this body.
+fn header64(body: &[u8]) -> Vec<u8> {
+    let count = (34 + body.len() as u32).to_be_bytes();
+    let fields = hex("000B 0048 0000 0000000000000001 0000000000000002");
+    [&[0x74], &count[..], &fields, body, &hex("13 B105"), &count].concat()
 }
 
 #[test]

@@ -302,25 +302,60 @@ fn numbers_without_a_token() {
     assert_eq!(walk_body(&[]), Ok(0));
 }
 
+/// The numbers of the tokens with a text, and the sizes of their fixed parts.
+const TEXTS: [(u8, usize); 4] = [(0x23, 3), (0x28, 3), (0x2D, 8), (0x71, 12)];
+
+/// A token with a text; `text` has its closing zero byte, if any.
+fn text_token(number: u8, fixed: usize, length: u16, text: &[u8]) -> Vec<u8> {
+    let mut bytes = vec![number];
+    bytes.resize(fixed - 2, 0xCC);
+    bytes.extend_from_slice(&length.to_be_bytes());
+    bytes.extend_from_slice(text);
+    bytes
+}
+
+/// 8 reports the byte that spoils the text (paper 02, P1), 7 the token.
 #[test]
 fn bad_texts() {
-    for (number, skip) in [(0x23, 0), (0x28, 0), (0x2D, 5), (0x71, 9)] {
-        let token = |length: u16, text: &[u8]| {
-            let mut bytes = vec![number];
-            bytes.resize(1 + skip, 0xCC);
-            bytes.extend_from_slice(&length.to_be_bytes());
-            bytes.extend_from_slice(text);
-            bytes
-        };
-        assert_eq!(token_at(&token(0, b""), 0), refused(8, 0));
-        assert_eq!(token_at(&token(0, b"a\0"), 0), refused(8, 0));
-        assert_eq!(token_at(&token(1, b"a"), 0), refused(8, 0));
-        assert_eq!(token_at(&token(3, b"abc"), 0), refused(8, 0));
-        assert_eq!(token_at(&token(3, b"\0a\0"), 0), refused(8, 0));
-        assert_eq!(token_at(&token(2, b"\0\0"), 0), refused(8, 0));
+    for (number, fixed) in TEXTS {
+        let token = |length: u16, text: &[u8]| text_token(number, fixed, length, text);
+        assert_eq!(token_at(&token(0, b""), 0), refused(8, fixed - 2));
+        assert_eq!(token_at(&token(0, b"a\0"), 0), refused(8, fixed - 2));
+        assert_eq!(token_at(&token(1, b"a"), 0), refused(8, fixed));
+        assert_eq!(token_at(&token(3, b"abc"), 0), refused(8, fixed + 2));
+        assert_eq!(token_at(&token(3, b"\0a\0"), 0), refused(8, fixed));
+        assert_eq!(token_at(&token(3, b"a\0\0"), 0), refused(8, fixed + 1));
+        assert_eq!(token_at(&token(3, b"a\0b"), 0), refused(8, fixed + 1));
+        assert_eq!(token_at(&token(5, b"a\0\0b\0"), 0), refused(8, fixed + 1));
+        assert_eq!(token_at(&token(2, b"\0\0"), 0), refused(8, fixed));
         // Too long wins over bad.
         assert_eq!(token_at(&token(4, b"\0ab"), 0), refused(7, 0));
         assert_eq!(token_at(&token(65_535, b"\0ab"), 0), refused(7, 0));
+        let cut = &token(0, b"")[..fixed - 1];
+        assert_eq!(token_at(cut, 0), refused(7, 0));
+    }
+}
+
+/// Places count from the start of the part, wherever the token stands in it.
+#[test]
+fn bad_texts_behind_other_tokens() {
+    let before = b"\x27\0\0\0\0\0";
+    for (number, fixed) in TEXTS {
+        for (length, text, at) in [
+            (0, &b""[..], fixed - 2),
+            (2, b"\0\0", fixed),
+            (3, b"abc", fixed + 2),
+        ] {
+            let token = text_token(number, fixed, length, text);
+            let body = [&before[..], &token, b"\x2C\0\0"].concat();
+            assert_eq!(token_at(&body, 6), refused(8, 6 + at));
+            assert_eq!(text_at(&body, 6), b"");
+            assert_eq!(walk_body(&body), refusal(8, 6 + at));
+        }
+        // The first bad token counts, whatever follows.
+        let first = text_token(number, fixed, 2, b"ab");
+        let body = [&first[..], b"\x28\0\0", b"\0"].concat();
+        assert_eq!(walk_body(&body), refusal(8, fixed + 1));
     }
 }
 

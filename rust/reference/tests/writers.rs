@@ -46,6 +46,24 @@ fn opaque(size: usize) -> Vec<u8> {
     .unwrap()
 }
 
+type Make = for<'a> fn(&'a [u8]) -> WriteToken<'a>;
+
+/// The tokens with a text, and the sizes of their fixed parts.
+const TEXTS: [(usize, Make); 4] = [
+    (3, |text| WriteToken::Path { text }),
+    (3, |text| WriteToken::Text { text }),
+    (8, |text| WriteToken::Arg32 {
+        argument: 1,
+        value: 2,
+        text,
+    }),
+    (12, |text| WriteToken::Arg64 {
+        argument: 1,
+        value: 2,
+        text,
+    }),
+];
+
 #[test]
 fn text_length_edge() {
     let most = vec![b'a'; 65_534];
@@ -54,22 +72,7 @@ fn text_length_edge() {
     zero[7] = 0;
     let mut over_zero = over.clone();
     over_zero[65_534] = 0;
-    type Make = for<'a> fn(&'a [u8]) -> WriteToken<'a>;
-    let kinds: [(usize, Make); 4] = [
-        (3, |text| WriteToken::Path { text }),
-        (3, |text| WriteToken::Text { text }),
-        (8, |text| WriteToken::Arg32 {
-            argument: 1,
-            value: 2,
-            text,
-        }),
-        (12, |text| WriteToken::Arg64 {
-            argument: 1,
-            value: 2,
-            text,
-        }),
-    ];
-    for (fixed, make) in kinds {
+    for (fixed, make) in TEXTS {
         let size = fixed + 65_535;
         let bytes = written(size + 1, |dst| write_token(dst, &make(&most))).unwrap();
         assert_eq!(bytes.len(), size);
@@ -84,10 +87,26 @@ fn text_length_edge() {
         let both = written(0, |dst| write_token(dst, &make(&over_zero)));
         assert_eq!(both, refusal(11, 0));
         let bad = written(0, |dst| write_token(dst, &make(&zero)));
-        assert_eq!(bad, refusal(8, 0));
-        for text in [&b"\0"[..], b"a\0", b"\0a", b"a\0b"] {
-            let bad = written(100, |dst| write_token(dst, &make(text)));
-            assert_eq!(bad, refusal(8, 0));
+        assert_eq!(bad, refusal(8, 7));
+    }
+}
+
+/// 8 reports the first zero byte's place in the text (paper 02, P1).
+#[test]
+fn texts_with_a_zero_byte() {
+    for (_, make) in TEXTS {
+        for (text, at) in [
+            (&b"\0"[..], 0),
+            (b"\0a", 0),
+            (b"a\0", 1),
+            (b"a\0b", 1),
+            (b"a\0b\0", 1),
+            (b"abc\0\0", 3),
+        ] {
+            for room in [0, 100] {
+                let bad = written(room, |dst| write_token(dst, &make(text)));
+                assert_eq!(bad, refusal(8, at));
+            }
         }
     }
 }
@@ -186,10 +205,19 @@ fn file_name_edge() {
     for room in [0, 2_000] {
         let long = written(room, |dst| write_file(dst, 5, 0, &name));
         assert_eq!(long, refusal(8, 0));
-        let zero = written(room, |dst| write_file(dst, 5, 0, b"a\0b"));
-        assert_eq!(zero, refusal(8, 0));
+        for (bad, at) in [(&b"\0"[..], 0), (b"a\0b", 1), (b"ab\0", 2), (b"a\0\0", 1)] {
+            let zero = written(room, |dst| write_file(dst, 5, 0, bad));
+            assert_eq!(zero, refusal(8, at));
+        }
         let late = written(room, |dst| write_file(dst, 5, 1_000_000, &name));
         assert_eq!(late, refusal(9, 0));
+    }
+    // Too long a name reports 0, also where a zero byte stands in it.
+    for (length, at, place) in [(1_023, 1_000, 1_000), (1_024, 1_000, 0), (1_024, 1_023, 0)] {
+        let mut name = name[..length].to_vec();
+        name[at] = 0;
+        let zero = written(2_000, |dst| write_file(dst, 5, 0, &name));
+        assert_eq!(zero, refusal(8, place));
     }
     let empty = written(12, |dst| write_file(dst, 1, 2, b"")).unwrap();
     assert_eq!(empty, b"\x11\0\0\0\x01\0\0\0\x02\0\x01\0");
@@ -257,7 +285,9 @@ fn record_order() {
         let answer = written(0, |dst| write_record(dst, &head, b"\x2C\0\0\x2C\0"));
         assert_eq!(answer, refusal(7, 3));
         let answer = written(0, |dst| write_record(dst, &head, b"\x2C\0\0\x28\0\0"));
-        assert_eq!(answer, refusal(8, 3));
+        assert_eq!(answer, refusal(8, 4));
+        let answer = written(0, |dst| write_record(dst, &head, b"\x2C\0\0\x28\0\x02ab"));
+        assert_eq!(answer, refusal(8, 7));
         let answer = written(0, |dst| write_record(dst, &head, b"\x2C\0\0"));
         assert_eq!(answer, refusal(10, 0));
     }

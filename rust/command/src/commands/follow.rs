@@ -185,7 +185,7 @@ impl Follow<'_> {
             form.write_last(&mut self.out, trail, self.state)?;
         }
         self.out.flush()?;
-        Ok(say_stop(self.name, trail, self.stop))
+        Ok(say_stop(self.name, trail, self.state, self.stop))
     }
 
     /// Says what has become of the file.

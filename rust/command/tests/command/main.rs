@@ -13,4 +13,5 @@ mod launchers;
 mod listing;
 mod printing;
 mod run;
+mod spoilt;
 mod trails;

@@ -22,6 +22,7 @@ fn tokens_at_all_places() {
         }
     }
     tally.finish("bodies", BODIES, [2, 6, 7, 8]);
+    tally.finish_texts("bodies", SPOILT_BODIES);
     tally.finish_kinds("bodies");
 }
 

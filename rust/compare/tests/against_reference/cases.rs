@@ -95,7 +95,7 @@ fn cases_12_and_13_file_tokens() {
     };
     assert_eq!(item_at(&file(), 0), Ok(Some(item)));
     let bad = raw_file(5, 7, 3, b"\0a\0");
-    assert_eq!(item_at(&bad, 0), refused(Reason::BadText, 0, 0));
+    assert_eq!(item_at(&bad, 0), refused(Reason::BadText, 11, 0));
 }
 
 #[test]

@@ -5,9 +5,13 @@ use bsm::{Header, HeaderKind, Item, NewToken, Reason, Refusal, Strings, Token};
 
 /// A refusal at place 0.
 fn refused(reason: Reason) -> Result<usize, Refusal> {
+    refused_at(reason, 0)
+}
+
+fn refused_at(reason: Reason, place: usize) -> Result<usize, Refusal> {
     Err(Refusal {
         reason,
-        place: 0,
+        place,
         need: 0,
     })
 }
@@ -35,8 +39,12 @@ fn accepted(token: &NewToken<'_>, size: usize) {
 
 /// Asserts that `token` is refused with `reason`, whatever the room.
 fn never(token: &NewToken<'_>, reason: Reason) {
+    never_at(token, reason, 0);
+}
+
+fn never_at(token: &NewToken<'_>, reason: Reason, place: usize) {
     for room in [0, 100, 400_000] {
-        assert_eq!(write(token, room).0, refused(reason));
+        assert_eq!(write(token, room).0, refused_at(reason, place));
     }
 }
 
@@ -78,7 +86,7 @@ fn texts_of_65_534_and_65_535_bytes() {
         never(&token, Reason::TooLarge);
     }
     for (token, _) in tokens(&zero[..65_534]) {
-        never(&token, Reason::BadText);
+        never_at(&token, Reason::BadText, 40_000);
     }
 }
 
@@ -139,9 +147,18 @@ fn names_of_1_023_and_1_024_bytes() {
     assert_eq!(small, refused(Reason::NoRoom));
     let long = bsm::write_file(&mut dst, 1, 2, &name);
     assert_eq!(long, refused(Reason::BadText));
+    // Too long reports 0, whatever zero byte is in it.
+    let mut zero = name;
+    zero[1_000] = 0;
+    let long = bsm::write_file(&mut dst, 1, 2, &zero);
+    assert_eq!(long, refused(Reason::BadText));
+    let bad = bsm::write_file(&mut dst, 1, 2, &zero[..1_023]);
+    assert_eq!(bad, refused_at(Reason::BadText, 1_000));
     // 9 comes before 8.
-    let late = bsm::write_file(&mut dst, 1, 1_000_000, &name);
-    assert_eq!(late, refused(Reason::TimeRange));
+    for name in [&name, &zero] {
+        let late = bsm::write_file(&mut dst, 1, 1_000_000, name);
+        assert_eq!(late, refused(Reason::TimeRange));
+    }
     assert!(dst.iter().all(|&byte| byte == 0xA5));
 }
 

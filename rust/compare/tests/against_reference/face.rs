@@ -240,7 +240,7 @@ fn items_field_by_field() {
         }
 
         let run = reference::run(&trail, state);
-        tally.answer(run.refusal);
+        tally.item_answer(&trail, run.state.place, run.refusal);
         let refusal = run
             .refusal
             .map(Err)
@@ -263,6 +263,7 @@ fn items_field_by_field() {
         }
     }
     tally.finish("items field by field", FACE / 2, 1..=9);
+    tally.finish_texts("items field by field", &SPOILT_ITEMS);
 }
 
 #[test]
@@ -300,7 +301,7 @@ fn tokens_field_by_field() {
                     break;
                 }
                 TokenAnswer::Refused(refusal) => {
-                    tally.answer(Some(refusal));
+                    tally.token_answer(&body, place, Some(refusal));
                     break;
                 }
             }
@@ -310,6 +311,7 @@ fn tokens_field_by_field() {
         assert_eq!(unsafe { bsm_walk_body(bytes, length) }, expected);
     }
     tally.finish("tokens field by field", FACE / 2, [6, 7, 8]);
+    tally.finish_texts("tokens field by field", SPOILT_BODIES);
     tally.finish_kinds("tokens field by field");
 }
 

@@ -20,6 +20,7 @@ fn cut_at_every_byte() {
         growing.finish();
     }
     tally.finish("cut at every byte", EVERY_BYTE, 1..=9);
+    tally.finish_ways("cut at every byte", &READ_WAYS);
 }
 
 #[test]
@@ -35,6 +36,7 @@ fn random_steps() {
         growing.finish();
     }
     tally.finish("random steps", RANDOM_STEPS, 1..=9);
+    tally.finish_texts("random steps", &SPOILT_ITEMS);
 }
 
 #[test]
@@ -78,4 +80,5 @@ fn one_place_waits_at_most_twice() {
     println!("waits 0, 1, 2: {waits:?}");
     assert!(waits.iter().all(|&times| times >= 1_000));
     tally.finish("waits", WAITS, [1, 3, 4, 5, 6, 7, 8, 9]);
+    tally.finish_ways("waits", &READ_WAYS);
 }

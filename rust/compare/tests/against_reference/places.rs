@@ -29,6 +29,7 @@ fn all_prefixes() {
         }
     }
     tally.finish("prefixes", PREFIXES, [1, 3, 4, 5, 6, 7, 8, 9]);
+    tally.finish_texts("prefixes", &SPOILT_ITEMS);
 }
 
 #[test]
@@ -54,4 +55,5 @@ fn all_places() {
         }
     }
     tally.finish("places", PLACES, 1..=9);
+    tally.finish_ways("places", &READ_WAYS);
 }

@@ -1,25 +1,32 @@
 //! What `./soak` does with its seeds, on a few of them.
 
 use compare::soak::{compare_seed, soak};
-use generator::TOKEN_NUMBERS;
+use generator::{SPOILT_CALLS, SPOILT_ITEMS, TOKEN_NUMBERS};
 use std::sync::atomic::{AtomicUsize, Ordering};
 
 #[test]
 fn a_few_seeds_meet_every_answer_and_kind() {
     let asked = AtomicUsize::new(0);
-    let enough = || asked.fetch_add(1, Ordering::Relaxed) >= 500;
+    let enough = || asked.fetch_add(1, Ordering::Relaxed) >= 1_000;
     let soaked = soak(901, 1, enough, compare_seed);
-    assert_eq!((soaked.seeds, soaked.differs), (500, None));
+    assert_eq!((soaked.seeds, soaked.differs), (1_000, None));
     let (none, refusals) = soaked.tally.answers();
     assert_eq!(refusals.len(), 11);
     assert!(none > 100 && refusals.iter().all(|&times| times > 100));
     for number in TOKEN_NUMBERS.into_iter().chain([0x11, 0x14, 0x74]) {
         assert!(soaked.tally.times(number) > 100, "{number:02X}");
     }
+    let shown = soaked.to_string();
+    for kind in SPOILT_ITEMS.into_iter().chain(SPOILT_CALLS) {
+        let times = soaked.tally.spoilt_times(kind);
+        assert!(times > 100, "{kind:02X?} {times}");
+        let line = format!("\n{times:>12}  {:02X} ", kind.0);
+        assert!(shown.contains(&line), "{line}");
+    }
 
     // The same seeds give the same inputs.
     let mut again = compare::Tally::new();
-    (901..1_401).for_each(|seed| compare_seed(&mut again, seed));
+    (901..1_901).for_each(|seed| compare_seed(&mut again, seed));
     assert_eq!(again.inputs(), soaked.tally.inputs());
     assert_eq!(again.answers(), soaked.tally.answers());
 }

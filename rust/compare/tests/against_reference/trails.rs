@@ -21,6 +21,7 @@ fn mixed_trails() {
         same_reading(&mut tally, &trail, state);
     }
     tally.finish("mixed trails", MIXED, 1..=9);
+    tally.finish_texts("mixed trails", &SPOILT_ITEMS);
 }
 
 #[test]
@@ -91,6 +92,7 @@ fn damaged_trails() {
         same_reading(&mut tally, &trail, State::default());
     }
     tally.finish("damaged trails", DAMAGED, [1, 3, 4, 5, 6, 7, 8, 9]);
+    tally.finish_ways("damaged trails", &READ_WAYS);
 }
 
 #[test]
@@ -106,6 +108,7 @@ fn trails_aimed_at_each_refusal() {
         same_reading(&mut tally, &trail, State::default());
     }
     tally.finish("aimed trails", AIMED, 1..=9);
+    tally.finish_texts("aimed trails", &SPOILT_ITEMS);
 }
 
 #[test]

@@ -28,5 +28,29 @@ fn destinations_around_the_needed_size() {
         }
     }
     tally.finish("writers", WRITES, [4, 6, 7, 8, 9, 10, 11]);
+    tally.finish_texts("writers", &SPOILT_CALLS);
     tally.finish_kinds("writers");
+}
+
+/// Bodies of every kind in records with either header, and bad ones whose
+/// answer is the walk's, whatever the room.
+#[test]
+fn bodies_given_to_the_record_writers() {
+    let mut rng = Rng::new(402);
+    let mut tally = Tally::new();
+    while tally.inputs() < RECORDS {
+        let (header, body) = (good_header(&mut rng), any_body(&mut rng));
+        let walked = reference::walk_body(&body);
+        let args = WriteArgs::Record { header, body };
+        for room in [0, args.size(), args.size() + 9] {
+            let answer = same_write(&mut tally, &mut rng, &args, room);
+            match walked {
+                Ok(_) if room > 0 => assert_eq!(answer, Ok(args.size())),
+                Ok(_) => assert_eq!(answer.map_err(|refusal| refusal.number), Err(10)),
+                Err(refusal) => assert_eq!(answer, Err(refusal)),
+            }
+        }
+    }
+    tally.finish("record writers", RECORDS, [6, 7, 8, 10]);
+    tally.finish_texts("record writers", SPOILT_BODIES);
 }
