@@ -5,7 +5,7 @@ use mathlib.Core.List.{List, []}
 use Prim.Native.Nat.{ℕ}
 use lib.ListN.{length, take, drop}
 use lib.Seq.{drop-drop}
-use Rattle.bsm_token.specs.Number.{field}
+use Rattle.bsm_field.specs.Number.{field}
 use Rattle.bsm_token.specs.Layout.{rowOf, fixed}
 use Rattle.bsm_token.specs.Token.{Token, Extent, extentOf, TokenAnswer, token, end as tokenEnd, refusal as tokenRefusal, tokenAt, hasString, stringOf, stringStart}
 use Rattle.bsm_token.specs.Flat.{flatToken}

@@ -4,7 +4,7 @@ use mathlib.Core.Bool.{Bool, true, false}
 use Prim.Native.Nat.{ℕ}
 use borrow.Author.Tests.{eqb-true}
 use lib.Dec.{eqb}
-use Rattle.bsm_token.specs.Number.{ifElse}
+use Rattle.bsm_field.specs.Number.{ifElse}
 use Rattle.bsm_token.specs.declared.refusal.Refusal.{Refusal}
 use Rattle.bsm_item.specs.Item.{Answer, short, refusal}
 use Rattle.bsm_item.specs.Meaning.{refusalMeant}

@@ -7,7 +7,7 @@ use Prim.Native.Nat.{ℕ, suc, _+_, _≤_, _<_}
 use native.Mathlib.Omega.{arith}
 use lib.Dec.{leb, ltb}
 use lib.ListN.{length, drop}
-use Rattle.bsm_token.specs.Number.{ifElse, field, fields, sum}
+use Rattle.bsm_field.specs.Number.{ifElse, field, fields, sum}
 use Rattle.bsm_token.specs.Layout.{rowOf, behind}
 use Rattle.bsm_token.specs.Token.{Token, Extent, tokenOf, extentOf, TokenAnswer, token, end as tokenEnd, refusal as tokenRefusal, tokenAt, Walk, tokens, refused as bad, walk}
 use Rattle.bsm_token.specs.Flat.{flatToken}

@@ -4,7 +4,7 @@ use mathlib.Core.Path.{_≡_}
 use mathlib.Core.List.{List, _++_}
 use lib.Dec.{eqb}
 use lib.ListN.{length, drop}
-use Rattle.bsm_token.specs.Number.{ifElse}
+use Rattle.bsm_field.specs.Number.{ifElse}
 use Rattle.bsm_item.specs.Item.{Answer, item, end, short, refusal, itemAt}
 use Rattle.bsm_item.specs.Reading.{State, Outcome as Stop}
 use Rattle.bsm_bytes.specs.Write.{Draft, code, Reply, wrote, denied, answerIn, leftIn}

@@ -2,7 +2,7 @@
 use crate::print::grouped;
 use crate::print::say;
 use bsm_bytes::answer::WriteAnswer;
-use bsm_token::number::minus;
+use bsm_field::number::minus;
 use bsm_token::part::part;
 use bsm_token::part::rest;
 use bsm_write::file::write_file;

@@ -9,7 +9,7 @@ mod read;
 mod tokens;
 
 use bsm_bytes::bytes::write_bytes;
-use bsm_token::number::u8_at;
+use bsm_field::number::u8_at;
 use bsm_token::part::part;
 use items::print_item;
 use items::write_item;

@@ -1,7 +1,7 @@
 // Printing bytes and numbers.
 ghost use Prim.Native.Nat.{_≤_};
 ghost use lib.ListN.{length};
-use bsm_token::number::u8_at;
+use bsm_field::number::u8_at;
 use bsm_token::part::part;
 use bsm_token::part::rest;
 use libc::STDOUT_FILENO;
