@@ -129,6 +129,37 @@ fn fields_of_both_headers() {
     }
 }
 
+/// A record with two bytes for the version, as case 9 had them before paper
+/// 02, P2. All but the count and the trailer is read one byte off.
+fn two_bytes(seconds: u32, nanoseconds: u32, body: &str) -> Vec<u8> {
+    let body = hex(body);
+    let count = format!("{:08X}", 26 + body.len());
+    let head = format!("14 {count} 000B 0048 0000 {seconds:08X} {nanoseconds:08X}");
+    [hex(&head), body, hex(&format!("13 B105 {count}"))].concat()
+}
+
+#[test]
+fn versions_of_two_bytes_are_not_guessed() {
+    let old_case_9 = two_bytes(1, 2, "");
+    assert_eq!(refused(&old_case_9, 0), (6, 18, 0));
+    for (seconds, nanoseconds, body, refusal) in [
+        (59, 999_999_999, "", (6, 18, 0)),
+        (60, 0, "", (9, 0, 0)),
+        (255, 0x2C, "27 00 290001FF", (9, 0, 0)),
+        (256, 0x2C, "", (7, 18, 0)),
+        (1, 0x2C, "27 00 00000000", (6, 21, 0)),
+        (1, 0x2D, "52 00000000 00000000", (8, 24, 0)),
+    ] {
+        let trail = two_bytes(seconds, nanoseconds, body);
+        assert_eq!(refused(&trail, 0), refusal, "{seconds} {nanoseconds}");
+        let end = trail.len() - 1;
+        assert_eq!(refused(&trail[..end], 0), (1, 0, trail.len()));
+    }
+    // One that is a record of another event and time.
+    let taken = two_bytes(1, 0x2C, "27 00 290001FF");
+    assert_eq!(record(&taken), (taken.len(), 0x0B00, 2));
+}
+
 #[test]
 fn case_10_one_token() {
     let trail = case_nine("27 00 00000000");
