@@ -1,7 +1,9 @@
 //! Records in the layout of the manual page, whose version has two bytes. All
 //! else in a record is as paper 02, P2, has it.
 
-use crate::layout::framed;
+use crate::good::{good_body, good_header};
+use crate::layout::{framed, TOKEN_NUMBERS};
+use crate::rng::Rng;
 use reference::Header;
 
 /// How many bytes of each time are left out in a header with this number.
@@ -42,4 +44,18 @@ pub fn page_found(header: &Header, body: &[u8]) -> (Header, Vec<u8>) {
         nanoseconds: moved(header.seconds, header.nanoseconds),
     };
     (found, [&[header.nanoseconds as u8], body].concat())
+}
+
+/// Header and body of a good record of the manual page: as they come, or aimed
+/// at being read as another good record. Those have 0 as the last byte of the
+/// seconds, and a token's number as that of the nanoseconds.
+pub fn page_fields(rng: &mut Rng, aimed: bool) -> (Header, Vec<u8>) {
+    let mut header = good_header(rng);
+    header.version = rng.u16();
+    if aimed {
+        header.seconds &= !0xFF;
+        let above = header.nanoseconds.min(999_999_000) & !0xFF;
+        header.nanoseconds = above | u64::from(rng.pick(&TOKEN_NUMBERS));
+    }
+    (header, good_body(rng))
 }
