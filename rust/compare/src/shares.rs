@@ -28,7 +28,9 @@ pub const RANDOM_STEPS: usize = 60_000;
 /// Reads at one place that wait.
 pub const WAITS: usize = 40_000;
 /// Records with two bytes for the version.
-pub const TWO_BYTES: usize = 60_000;
+pub const TWO_BYTES: usize = 200_000;
+/// Such records cut at every byte.
+pub const CUT_TWO_BYTES: usize = 60_000;
 /// Lines of a listing.
 pub const LINES: usize = 100_000;
 /// Parts of a listing.
@@ -53,6 +55,7 @@ pub const TOTAL: usize = MIXED
     + RANDOM_STEPS
     + WAITS
     + TWO_BYTES
+    + CUT_TWO_BYTES
     + LINES
     + PARTS
     + FACE

@@ -187,21 +187,45 @@ fn told(tally: &mut Tally, header: &Header, body: &[u8]) -> u8 {
     }
 }
 
+/// How often each answer comes for records of the manual page with these
+/// headers and bodies, by the header.
+fn answers(records: impl Iterator<Item = (Header, Vec<u8>)>) -> BTreeMap<(u8, u8), usize> {
+    let mut tally = Tally::new();
+    let mut times = BTreeMap::new();
+    for (header, body) in records {
+        let number = told(&mut tally, &header, &body);
+        *times.entry((header.number, number)).or_insert(0) += 1;
+    }
+    println!("{} records: {times:02X?}", tally.inputs());
+    times
+}
+
 #[test]
 fn records_of_the_manual_page() {
-    let mut rng = Rng::new(603);
+    let mut rng = Rng::new(33);
     for (aimed, often) in [(false, &[6, 7, 9][..]), (true, &[0, 6, 7, 8])] {
-        let mut tally = Tally::new();
-        let mut times = BTreeMap::new();
-        while tally.inputs() < TWO_BYTES {
-            let (header, body) = page_fields(&mut rng, aimed);
-            let number = told(&mut tally, &header, &body);
-            *times.entry((header.number, number)).or_insert(0) += 1;
-        }
-        println!("aimed {aimed}: {times:?}");
+        let times = answers((0..TWO_BYTES).map(|_| page_fields(&mut rng, aimed)));
         for number in often {
             assert!(times[&(0x14, *number)] >= 100 && times[&(0x74, *number)] >= 100);
         }
+    }
+}
+
+/// Records with usual times: the seconds tell three of four.
+#[test]
+fn usual_records_of_the_manual_page() {
+    for trail in [usual_records(20_000_000), small_records(4_000_000)] {
+        let items = reference::reading(&trail, State::default()).0.into_iter();
+        let records = items.map(|(_, item)| match item {
+            Item::Record { header, body, .. } => (header, body.to_vec()),
+            Item::File { .. } => panic!("no record"),
+        });
+        let times = answers(records);
+        let sum = |late: bool| -> usize {
+            let of_it = times.iter().filter(|((_, n), _)| (*n == 9) == late);
+            of_it.map(|(_, times)| times).sum()
+        };
+        assert!(sum(true) > 3 * sum(false), "{times:02X?}");
     }
 }
 
@@ -211,7 +235,7 @@ fn records_of_the_manual_page() {
 fn trails_of_the_manual_page_cut_at_each_byte() {
     let mut rng = Rng::new(604);
     let mut tally = Tally::new();
-    while tally.inputs() < TWO_BYTES {
+    while tally.inputs() < CUT_TWO_BYTES {
         let aimed = rng.chance(2);
         let (header, body) = page_fields(&mut rng, aimed);
         if body.len() > 200 {
@@ -235,5 +259,5 @@ fn trails_of_the_manual_page_cut_at_each_byte() {
         let passed = told(&mut tally, &header, &body) == 0;
         assert_eq!(run.state.place > start, passed);
     }
-    tally.finish("trails of the manual page", TWO_BYTES, [1, 6, 9]);
+    tally.finish("trails of the manual page", CUT_TWO_BYTES, [1, 6, 9]);
 }
