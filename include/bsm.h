@@ -33,7 +33,7 @@ enum {
     BSM_REFUSAL_BAD_TEXT = 8,         /* a bad text, or too long a file name: the byte that spoils it */
     BSM_REFUSAL_TIME_RANGE = 9,       /* microseconds or nanoseconds out of range */
     BSM_REFUSAL_NO_ROOM = 10,         /* the destination is too small */
-    BSM_REFUSAL_TOO_LARGE = 11        /* a value is too large for its field */
+    BSM_REFUSAL_TOO_LARGE = 11        /* a value is too large for its field; a record's version is one byte */
 };
 
 /* Token numbers. */
@@ -73,7 +73,7 @@ typedef struct {
     uint64_t kind;      /* BSM_END, BSM_FILE, BSM_RECORD or BSM_REFUSED */
     uint64_t size;      /* bytes of the item */
     uint64_t header;    /* record: BSM_ID_HEADER32 or BSM_ID_HEADER64 */
-    uint64_t version;   /* record */
+    uint64_t version;   /* record: at most 255 */
     uint64_t event;     /* record */
     uint64_t modifier;  /* record */
     uint64_t seconds;   /* file and record */
@@ -199,7 +199,8 @@ typedef struct {
 bsm_written bsm_walk_body(const uint8_t *body, size_t length);
 
 /* ---- writing: each writes at the start of dst, and answers how many bytes. Texts, names and paths are given without their zero
-   byte, strings of exec tokens each with its own. Bytes that are not as many strings as `count` says are 8 with place 0. */
+   byte, strings of exec tokens each with its own. Bytes that are not as many strings as `count` says are 8 with place 0. A record's
+   version over 255 is 11, for either header; its times over 32 bits are 11 for a header32. */
 
 bsm_written bsm_write_path(uint8_t *dst, size_t room, const uint8_t *text, size_t length);
 bsm_written bsm_write_text(uint8_t *dst, size_t room, const uint8_t *text, size_t length);

@@ -1,6 +1,6 @@
 /* Uses the library from C: writes every kind of token, a file token and two records, reads them back, lists them, and tries
-   texts that are spoilt, destinations that are too small and buffers that are not there. What it expects is computed from what it
-   wrote. Exit status 0 where every assertion holds. */
+   texts that are spoilt, versions of all sizes, destinations that are too small and buffers that are not there. What it expects is
+   computed from what it wrote. Exit status 0 where every assertion holds. */
 #undef NDEBUG
 #include <assert.h>
 #include <stdio.h>
@@ -11,6 +11,9 @@
 #define REST(buffer, used) (buffer) + (used), sizeof(buffer) - (used)
 #define TEXT(s) (const uint8_t *)(s), sizeof(s) - 1
 #define VALUES(...) (const uint64_t[10]){__VA_ARGS__}
+
+/* Bytes of the headers and of the trailer. */
+enum { HEADER32 = 18, HEADER64 = 26, TRAILER = 7, LEAST32 = HEADER32 + TRAILER, LEAST64 = HEADER64 + TRAILER };
 
 static uint8_t body[1024];
 static size_t body_size, tokens;
@@ -117,16 +120,16 @@ static void write_trail(void)
     assert(accepted(bsm_write_file(REST(trail, 0), 5, 999999, TEXT("20240131")), 11 + 8 + 1));
     record_place = 20;
     bsm_written first = bsm_write_record32(REST(trail, record_place), 11, 72, 1, 1000, 2000, body, body_size);
-    assert(accepted(first, 19 + body_size + 7));
+    assert(accepted(first, HEADER32 + body_size + TRAILER));
     second_place = record_place + first.written;
     bsm_written second = bsm_write_record64(REST(trail, second_place), 11, 73, 0, (uint64_t)1 << 33, 999999999, body, 0);
-    assert(accepted(second, 27 + 7));
+    assert(accepted(second, LEAST64));
     trail_size = second_place + second.written;
 
     assert(trail[0] == BSM_ID_FILE && trail[record_place] == BSM_ID_HEADER32 && trail[second_place] == BSM_ID_HEADER64);
-    assert(trail[trail_size - 7] == BSM_ID_TRAILER);
-    assert(memcmp(trail + record_place + 19, body, body_size) == 0);
-    assert(memcmp(trail + second_place - 7, "\x13\xB1\x05\0\0", 5) == 0);
+    assert(trail[trail_size - TRAILER] == BSM_ID_TRAILER);
+    assert(memcmp(trail + record_place + HEADER32, body, body_size) == 0);
+    assert(memcmp(trail + second_place - TRAILER, "\x13\xB1\x05\0\0", 5) == 0);
 }
 
 static int same_part(bsm_part p, uint64_t start, uint64_t length)
@@ -142,18 +145,18 @@ static void read_items(void)
     assert(same_part(bsm_body_at(trail, trail_size, 0), 0, 0));
 
     bsm_item r = bsm_item_at(trail, trail_size, record_place);
-    assert(r.kind == BSM_RECORD && r.size == 26 + body_size && r.header == BSM_ID_HEADER32 && r.version == 11 && r.event == 72);
+    assert(r.kind == BSM_RECORD && r.size == LEAST32 + body_size && r.header == BSM_ID_HEADER32 && r.version == 11 && r.event == 72);
     assert(r.modifier == 1 && r.seconds == 1000 && r.fraction == 2000 && r.tokens == tokens && r.number == 0);
-    assert(same_part(bsm_body_at(trail, trail_size, record_place), record_place + 19, body_size));
+    assert(same_part(bsm_body_at(trail, trail_size, record_place), record_place + HEADER32, body_size));
     assert(same_part(bsm_name_at(trail, trail_size, record_place), 0, 0));
 
     bsm_item w = bsm_item_at(trail, trail_size, second_place);
-    assert(w.kind == BSM_RECORD && w.size == 34 && w.header == BSM_ID_HEADER64 && w.seconds == (uint64_t)1 << 33 && w.tokens == 0);
-    assert(same_part(bsm_body_at(trail, trail_size, second_place), second_place + 27, 0));
+    assert(w.kind == BSM_RECORD && w.size == LEAST64 && w.header == BSM_ID_HEADER64 && w.seconds == (uint64_t)1 << 33 && w.tokens == 0);
+    assert(same_part(bsm_body_at(trail, trail_size, second_place), second_place + HEADER64, 0));
 
     assert(bsm_item_at(trail, trail_size, trail_size).kind == BSM_END);
     bsm_item cut = bsm_item_at(trail, trail_size - 1, second_place);
-    assert(cut.kind == BSM_REFUSED && cut.number == 1 && cut.place == second_place && cut.need == 34 && cut.size == 0);
+    assert(cut.kind == BSM_REFUSED && cut.number == 1 && cut.place == second_place && cut.need == LEAST64 && cut.size == 0);
     bsm_item beyond = bsm_item_at(trail, trail_size, SIZE_MAX);
     assert(beyond.kind == BSM_REFUSED && beyond.number == 2 && beyond.place == SIZE_MAX && beyond.need == 0);
 }
@@ -171,7 +174,7 @@ static void read_trail(void)
 
     bsm_outcome part = bsm_run(trail, second_place - 1, 0, 0, 0);
     assert(part.place == record_place && part.records == 0 && part.files == 1);
-    assert(part.number == 1 && part.at == record_place && part.need == 26 + body_size);
+    assert(part.number == 1 && part.at == record_place && part.need == LEAST32 + body_size);
     bsm_outcome rest = bsm_run(trail, trail_size, part.place, part.records, part.files);
     assert(memcmp(&rest, &all, sizeof all) == 0);
 
@@ -184,8 +187,8 @@ static void list_trail(void)
 {
     char expected[256];
     size_t n = (size_t)snprintf(expected, sizeof expected,
-        "bsmlist\t1\nF\t0\t20\t5\t999999\nR\t%zu\t%zu\t72\t1\t1000\t2000\t20\nR\t%zu\t34\t73\t0\t8589934592\t999999999\t0\nE\t2\t1\n",
-        record_place, 26 + body_size, second_place);
+        "bsmlist\t1\nF\t0\t20\t5\t999999\nR\t%zu\t%zu\t72\t1\t1000\t2000\t20\nR\t%zu\t%d\t73\t0\t8589934592\t999999999\t0\nE\t2\t1\n",
+        record_place, LEAST32 + body_size, second_place, LEAST64);
     uint8_t lines[256];
     size_t at = bsm_first_line(REST(lines, 0)).written;
     for (size_t place = 0; place < trail_size; place += bsm_item_at(trail, trail_size, place).size)
@@ -282,7 +285,7 @@ static void spoil_text(void)
     size_t n = bsm_write_iport(REST(b, 0), 22).written;
     const size_t token = n, text = n + 3;
     n += bsm_write_text(REST(b, n), TEXT("charter 4711")).written;
-    const size_t item = bsm_write_file(REST(t, 0), 5, 7, TEXT("a")).written, start = item + 19, last = n - 1;
+    const size_t item = bsm_write_file(REST(t, 0), 5, 7, TEXT("a")).written, start = item + HEADER32, last = n - 1;
     const size_t size = item + bsm_write_record32(REST(t, item), 11, 72, 0, 1, 2, b, n).written;
     for (size_t at = text; at <= last; at++) {
         const uint8_t old = b[at];
@@ -337,8 +340,9 @@ static void guard_bytes(void)
     assert(refused(bsm_write_path(d + 8, 8, TEXT("/tmp/")), 10, 0));
     assert(refused(bsm_write_path(d + 8, 56, TEXT("/t\0p")), 8, 2));
     assert(refused(bsm_write_file(d + 8, 56, 0, 1000000, TEXT("name")), 9, 0));
-    assert(refused(bsm_write_record32(d + 8, 25, 0, 0, 0, 0, 0, body, 0), 10, 0));
+    assert(refused(bsm_write_record32(d + 8, LEAST32 - 1, 0, 0, 0, 0, 0, body, 0), 10, 0));
     assert(refused(bsm_write_record32(d + 8, 56, 0, 0, 0, (uint64_t)1 << 32, 0, body, 0), 11, 0));
+    assert(refused(bsm_write_record64(d + 8, LEAST64 - 1, 0, 0, 0, 0, 0, body, 0), 10, 0));
     assert(refused(bsm_write_record64(d + 8, 56, 0, 0, 0, 0, 0, body, 18), 7, 15));
     assert(refused(bsm_first_line(d + 8, 9), 10, 0));
     assert(memcmp(d, before, sizeof d) == 0);
@@ -346,6 +350,45 @@ static void guard_bytes(void)
     assert(accepted(bsm_write_path(d + 8, 9, TEXT("/tmp/")), 9));
     assert(memcmp(d + 8, "\x23\0\6/tmp/\0", 9) == 0);
     assert(memcmp(d, before, 8) == 0 && memcmp(d + 17, before + 17, sizeof d - 17) == 0);
+}
+
+typedef bsm_written record_writer(uint8_t *, size_t, uint16_t, uint16_t, uint16_t, uint64_t, uint64_t, const uint8_t *, size_t);
+
+/* Each version that fits one byte is written and read back; one over 255 is 11 and changes no byte. */
+static void write_versions(record_writer *write, size_t least)
+{
+    uint8_t d[LEAST64], before[sizeof d];
+    memset(before, 0xA5, sizeof before);
+    for (uint32_t version = 0; version <= UINT16_MAX; version++) {
+        memcpy(d, before, sizeof d);
+        bsm_written w = write(d, sizeof d, (uint16_t)version, 0x0203, 0x0405, 6, 7, NULL, 0);
+        bsm_item r = bsm_item_at(d, least, 0);
+        if (version > 255)
+            assert(refused(w, 11, 0) && memcmp(d, before, sizeof d) == 0);
+        else
+            assert(accepted(w, least) && d[5] == version && r.kind == BSM_RECORD && r.version == version && r.event == 0x0203
+                && r.modifier == 0x0405 && r.seconds == 6 && r.fraction == 7 && r.size == least);
+    }
+}
+
+/* A version that is too large is told after 4 and before 9, the body's refusals and 10. */
+static void order_of_versions(record_writer *write)
+{
+    static const uint8_t large[65535];
+    uint8_t d[64], before[sizeof d];
+    memset(d, 0xA5, sizeof d);
+    memcpy(before, d, sizeof d);
+    for (uint32_t version = 256; version <= UINT16_MAX; version += UINT16_MAX - 256) {
+        assert(refused(write(d, sizeof d, (uint16_t)version, 0, 0, 0, 1000000000, large, sizeof large), 4, 0));
+        assert(refused(write(d, sizeof d, (uint16_t)version, 0, 0, 0, 1000000000, NULL, 0), 11, 0));
+        assert(refused(write(d, sizeof d, (uint16_t)version, 0, 0, 0, UINT64_MAX, TEXT("\0")), 11, 0));
+        assert(refused(write(d, sizeof d, (uint16_t)version, 0, 0, UINT64_MAX, 0, TEXT("\x2c\0")), 11, 0));
+        assert(refused(write(d, sizeof d, (uint16_t)version, 0, 0, 0, 0, TEXT("\x28\0\1a")), 11, 0));
+        assert(refused(write(NULL, 0, (uint16_t)version, 0, 0, 0, 0, NULL, 0), 11, 0));
+    }
+    assert(refused(write(d, sizeof d, 255, 0, 0, 0, 1000000000, NULL, 0), 9, 0));
+    assert(refused(write(NULL, 0, 255, 0, 0, 0, 0, NULL, 0), 10, 0));
+    assert(memcmp(d, before, sizeof d) == 0);
 }
 
 /* Each refusal, by its name. */
@@ -366,6 +409,7 @@ static void name_refusals(void)
     assert(bsm_write_record32(d, room, 0, 0, 0, 0, 1000000000, NULL, 0).number == BSM_REFUSAL_TIME_RANGE);
     assert(bsm_write_seq(d, 4, 1).number == BSM_REFUSAL_NO_ROOM);
     assert(bsm_write_record32(d, room, 0, 0, 0, (uint64_t)1 << 32, 0, NULL, 0).number == BSM_REFUSAL_TOO_LARGE);
+    assert(bsm_write_record64(d, room, 256, 0, 0, 0, 0, NULL, 0).number == BSM_REFUSAL_TOO_LARGE);
 }
 
 /* A null pointer with length 0 stands for nothing, in every parameter of every function. */
@@ -442,8 +486,8 @@ static void write_nothing(void)
     assert(accepted(bsm_write_exec_env(d, n, 0, NOTHING), 5) && memcmp(d, "\x3D\0\0\0\0", 5) == 0);
     assert(refused(bsm_write_exec_args(d, n, 1, NOTHING), 8, 0) && refused(bsm_write_exec_env(d, n, 1, NOTHING), 8, 0));
     assert(accepted(bsm_write_file(d, n, 1, 2, NOTHING), 12) && memcmp(d + 9, "\0\1\0", 3) == 0);
-    assert(accepted(bsm_write_record32(d, n, 1, 2, 3, 4, 5, NOTHING), 26) && bsm_item_at(d, 26, 0).kind == BSM_RECORD);
-    assert(accepted(bsm_write_record64(d, n, 1, 2, 3, 4, 5, NOTHING), 34) && bsm_item_at(d, 34, 0).kind == BSM_RECORD);
+    assert(accepted(bsm_write_record32(d, n, 1, 2, 3, 4, 5, NOTHING), LEAST32) && bsm_item_at(d, LEAST32, 0).kind == BSM_RECORD);
+    assert(accepted(bsm_write_record64(d, n, 1, 2, 3, 4, 5, NOTHING), LEAST64) && bsm_item_at(d, LEAST64, 0).kind == BSM_RECORD);
 }
 
 static void list_nothing(void)
@@ -484,6 +528,10 @@ int main(void)
     spoil_texts();
     spoil_given();
     guard_bytes();
+    write_versions(bsm_write_record32, LEAST32);
+    write_versions(bsm_write_record64, LEAST64);
+    order_of_versions(bsm_write_record32);
+    order_of_versions(bsm_write_record64);
     name_refusals();
     read_nothing();
     write_into_nothing();

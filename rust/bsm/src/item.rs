@@ -51,7 +51,9 @@ impl HeaderKind {
 pub struct Header {
     /// Which header.
     pub kind: HeaderKind,
-    /// Version of the record layout.
+    /// Version of the record layout. A record has one byte for it, so that one
+    /// that was read is at most 255; [`write_record`](crate::write_record)
+    /// refuses a larger one.
     pub version: u16,
     /// Event type.
     pub event: u16,

@@ -28,8 +28,8 @@
 //!     Ok(found)
 //! }
 //!
-//! let record = b"\x14\0\0\0\x22\0\x0b\0\x48\0\0\0\0\0\x01\0\0\0\x02\
-//!     \x23\0\x05/etc\0\x13\xb1\x05\0\0\0\x22";
+//! let record = b"\x14\0\0\0\x21\x0b\0\x48\0\0\0\0\0\x01\0\0\0\x02\
+//!     \x23\0\x05/etc\0\x13\xb1\x05\0\0\0\x21";
 //! assert_eq!(paths(record)?, [b"/etc"]);
 //! # Ok::<(), bsm::Refusal>(())
 //! ```
@@ -56,14 +56,14 @@
 //!     }
 //! }
 //!
-//! let record = b"\x14\0\0\0\x1a\0\x0b\0\x48\0\0\0\0\0\x01\0\0\0\x02\x13\xb1\x05\0\0\0\x1a";
+//! let record = b"\x14\0\0\0\x19\x0b\0\x48\0\0\0\0\0\x01\0\0\0\x02\x13\xb1\x05\0\0\0\x19";
 //! let mut trail = [&record[..], &record[..7]].concat();
 //! let mut reader = Reader::new();
-//! assert_eq!(catch_up(&mut reader, &trail)?, 52);
+//! assert_eq!(catch_up(&mut reader, &trail)?, 50);
 //! assert_eq!(reader.state().records, 1);
 //!
 //! trail.extend(&record[7..]);
-//! assert_eq!(catch_up(&mut reader, &trail)?, 53);
+//! assert_eq!(catch_up(&mut reader, &trail)?, 51);
 //! assert_eq!(reader.state().records, 2);
 //! # Ok::<(), bsm::Refusal>(())
 //! ```

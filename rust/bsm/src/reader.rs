@@ -14,15 +14,15 @@ use core::iter::FusedIterator;
 /// ```
 /// use bsm::{Reader, Step};
 ///
-/// # let whole = b"\x14\0\0\0\x1a\0\x0b\0\x48\0\0\0\0\0\x01\0\0\0\x02\x13\xb1\x05\0\0\0\x1a";
-/// // `whole` is a record of 26 bytes, of which 20 have been written so far.
+/// # let whole = b"\x14\0\0\0\x19\x0b\0\x48\0\0\0\0\0\x01\0\0\0\x02\x13\xb1\x05\0\0\0\x19";
+/// // `whole` is a record of 25 bytes, of which 20 have been written so far.
 /// let mut trail = whole[..20].to_vec();
 /// let mut reader = Reader::new();
-/// assert_eq!(reader.next(&trail), Step::Short { place: 0, need: 26 });
+/// assert_eq!(reader.next(&trail), Step::Short { place: 0, need: 25 });
 ///
 /// // Nothing changes before the bytes it needs are there.
 /// trail.push(whole[20]);
-/// assert_eq!(reader.next(&trail), Step::Short { place: 0, need: 26 });
+/// assert_eq!(reader.next(&trail), Step::Short { place: 0, need: 25 });
 ///
 /// trail.extend(&whole[21..]);
 /// assert!(matches!(reader.next(&trail), Step::Item { place: 0, .. }));
@@ -72,17 +72,17 @@ impl Reader {
 /// use bsm::{Items, Reason, State};
 ///
 /// # let whole = b"\x11\0\0\0\x05\0\0\0\x07\0\x02a\0\
-/// #     \x14\0\0\0\x1a\0\x0b\0\x48\0\0\0\0\0\x01\0\0\0\x02\x13\xb1\x05\0\0\0\x1a";
-/// // `whole` is a file token of 13 bytes and a record of 26.
+/// #     \x14\0\0\0\x19\x0b\0\x48\0\0\0\0\0\x01\0\0\0\x02\x13\xb1\x05\0\0\0\x19";
+/// // `whole` is a file token of 13 bytes and a record of 25.
 /// let mut early = Items::new(&whole[..30], State::default());
 /// assert!(early.next().unwrap().is_ok());
 /// let short = early.next().unwrap().unwrap_err();
-/// assert_eq!((short.reason, short.place, short.need), (Reason::Short, 13, 26));
+/// assert_eq!((short.reason, short.place, short.need), (Reason::Short, 13, 25));
 /// assert!(early.next().is_none());
 ///
 /// let mut late = Items::new(whole, early.state());
 /// let (place, record) = late.next().unwrap()?;
-/// assert_eq!((place, record.size()), (13, 26));
+/// assert_eq!((place, record.size()), (13, 25));
 /// assert!(late.next().is_none());
 /// # Ok::<(), bsm::Refusal>(())
 /// ```

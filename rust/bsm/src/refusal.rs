@@ -44,7 +44,9 @@ pub enum Reason {
     TimeRange = 9,
     /// 10: too little room in the destination.
     NoRoom = 10,
-    /// 11: a value that its field cannot hold.
+    /// 11: a value that its field cannot hold: a text, an opaque or groups too
+    /// long, a record's version over 255, or times over 32 bits for a
+    /// header32.
     TooLarge = 11,
 }
 

@@ -73,7 +73,7 @@ mod tests {
         for header in [0, 0x15, 0x79].into_iter().chain(NEVER) {
             let told = sys::bsm_item {
                 kind: sys::BSM_RECORD,
-                size: 26,
+                size: 25,
                 header,
                 ..Default::default()
             };

@@ -170,13 +170,13 @@ pub fn write_file(
 /// Writes a record of a header, a body and a trailer, and answers how many
 /// bytes it took.
 ///
-/// Refused, in this order, are more than 65,535 bytes in all, times too
-/// large for a header32, nanoseconds over 999,999,999, the body's first
-/// bad token, as [`walk_body`](crate::walk_body) refuses it, and a
-/// destination that is too small.
+/// Refused, in this order, are more than 65,535 bytes in all, a version over
+/// 255 or times too large for a header32, nanoseconds over 999,999,999, the
+/// body's first bad token, as [`walk_body`](crate::walk_body) refuses it, and
+/// a destination that is too small.
 ///
 /// ```
-/// use bsm::{item_at, write_record, Header, HeaderKind, Item};
+/// use bsm::{item_at, write_record, Header, HeaderKind, Item, Reason};
 ///
 /// let mut given = Header::new(HeaderKind::Header32);
 /// given.version = 11;
@@ -193,6 +193,10 @@ pub fn write_file(
 ///     }
 ///     other => panic!("no record: {other:?}"),
 /// }
+///
+/// given.version = 256;
+/// let refused = write_record(&mut trail, &given, b"");
+/// assert_eq!(refused.unwrap_err().reason, Reason::TooLarge);
 /// # Ok::<(), bsm::Refusal>(())
 /// ```
 #[inline]

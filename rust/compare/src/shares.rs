@@ -27,6 +27,10 @@ pub const EVERY_BYTE: usize = 150_000;
 pub const RANDOM_STEPS: usize = 60_000;
 /// Reads at one place that wait.
 pub const WAITS: usize = 40_000;
+/// Records with two bytes for the version.
+pub const TWO_BYTES: usize = 200_000;
+/// Such records cut at every byte.
+pub const CUT_TWO_BYTES: usize = 60_000;
 /// Lines of a listing.
 pub const LINES: usize = 100_000;
 /// Parts of a listing.
@@ -50,6 +54,8 @@ pub const TOTAL: usize = MIXED
     + EVERY_BYTE
     + RANDOM_STEPS
     + WAITS
+    + TWO_BYTES
+    + CUT_TWO_BYTES
     + LINES
     + PARTS
     + FACE

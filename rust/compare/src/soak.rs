@@ -180,6 +180,21 @@ fn words_for(spoilt: Spoilt) -> &'static str {
     }
 }
 
+/// What is wrong beside a version, in a few words.
+fn words_beside(beside: Beside) -> String {
+    match beside {
+        Beside::Nothing => "nothing else".into(),
+        Beside::Length => "the length, told first".into(),
+        Beside::Seconds => "seconds too large".into(),
+        Beside::Nanoseconds => "nanoseconds too large".into(),
+        Beside::Range => "nanoseconds out of range".into(),
+        Beside::Body(number) => format!("a body refused with {number}"),
+        Beside::Room => "the room".into(),
+        Beside::Several => "several".into(),
+        Beside::LengthAndMore => "the length, told first, and more".into(),
+    }
+}
+
 impl Display for Soaked {
     fn fmt(&self, f: &mut Formatter<'_>) -> fmt::Result {
         let tally = &self.tally;
@@ -195,6 +210,12 @@ impl Display for Soaked {
             let (number, spoilt) = kind;
             let (times, name) = (tally.spoilt_times(kind), name_of(number));
             writeln!(f, "{times:>12}  {number:02X} {name}: {}", words_for(spoilt))?;
+        }
+        writeln!(f, "versions over 255 to be written, by what else is wrong")?;
+        for kind in LARGE_VERSIONS {
+            let (times, name) = (tally.version_times(kind), name_of(kind.0));
+            let words = words_beside(kind.1);
+            writeln!(f, "{times:>12}  {:02X} {name}: {words}", kind.0)?;
         }
         writeln!(f, "items accepted")?;
         for (number, name) in ITEMS {

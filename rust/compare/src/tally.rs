@@ -1,7 +1,7 @@
 //! Counting what was compared.
 
-use generator::{spoilt_body, spoilt_call, spoilt_item, spoilt_token};
-use generator::{Spoilt, WriteArgs, TOKEN_NUMBERS};
+use generator::{large_version, spoilt_body, spoilt_call, spoilt_item, spoilt_token};
+use generator::{Beside, Spoilt, WriteArgs, LARGE_VERSIONS, TOKEN_NUMBERS};
 use reference::Refusal;
 use std::collections::BTreeMap;
 
@@ -16,6 +16,7 @@ pub struct Tally {
     refusals: [usize; 12],
     kinds: [usize; 256],
     texts: BTreeMap<(u8, Spoilt), usize>,
+    versions: BTreeMap<(u8, Beside), usize>,
 }
 
 impl Default for Tally {
@@ -33,6 +34,7 @@ impl Tally {
             refusals: [0; 12],
             kinds: [0; 256],
             texts: BTreeMap::new(),
+            versions: BTreeMap::new(),
         }
     }
 
@@ -72,10 +74,14 @@ impl Tally {
         self.spoilt(refusal, |place| spoilt_token(body, start, place));
     }
 
-    /// The same of a writer.
-    pub fn write_answer(&mut self, args: &WriteArgs, refusal: Option<Refusal>) {
+    /// The same of a writer and its room; for a version over 255 also what
+    /// else is wrong.
+    pub fn write_answer(&mut self, args: &WriteArgs, room: usize, refusal: Option<Refusal>) {
         self.answer(refusal);
         self.spoilt(refusal, |place| spoilt_call(args, place));
+        if let Some(kind) = large_version(args, room) {
+            *self.versions.entry(kind).or_insert(0) += 1;
+        }
     }
 
     /// Counts what offends where a refusal is 8.
@@ -107,6 +113,9 @@ impl Tally {
         for (kind, more) in &other.texts {
             *self.texts.entry(*kind).or_insert(0) += more;
         }
+        for (kind, more) in &other.versions {
+            *self.versions.entry(*kind).or_insert(0) += more;
+        }
     }
 
     /// How often no refusal came, and each of the refusals from 1 on.
@@ -123,6 +132,12 @@ impl Tally {
     /// in this way.
     pub fn spoilt_times(&self, kind: (u8, Spoilt)) -> usize {
         self.texts.get(&kind).copied().unwrap_or(0)
+    }
+
+    /// How often a record with this header was to be written with a version
+    /// over 255 and this beside it.
+    pub fn version_times(&self, kind: (u8, Beside)) -> usize {
+        self.versions.get(&kind).copied().unwrap_or(0)
     }
 
     /// Prints the counters and asserts the share of inputs, and that each of
@@ -167,6 +182,16 @@ impl Tally {
             let of_it = self.texts.iter().filter(|((_, found), _)| found == way);
             let times: usize = of_it.map(|(_, times)| times).sum();
             assert!(times >= OFTEN, "{test}: {way:?} {times} times");
+        }
+    }
+
+    /// Prints what was wrong beside versions over 255, and asserts that each
+    /// came often.
+    pub fn finish_versions(&self, test: &str) {
+        println!("{test}: versions {:02X?}", self.versions);
+        for kind in LARGE_VERSIONS {
+            let times = self.version_times(kind);
+            assert!(times >= OFTEN, "{test}: {kind:02X?} {times} times");
         }
     }
 

@@ -79,7 +79,7 @@ pub fn same_write(
         expected.map_err(expect::refusal),
         "{args:?} into {room}"
     );
-    tally.write_answer(args, expected.err());
+    tally.write_answer(args, room, expected.err());
     if let WriteArgs::Token(args) = args {
         tally.kind(args.fields.number());
     }

@@ -1,12 +1,13 @@
 //! Calls of the writers, good ones and ones to be refused.
 
 use crate::damage::damage_body;
-use crate::good::{body_for, good_body, good_header};
+use crate::good::{body_for, good_body, good_header_of};
 use crate::layout::{header_size, Tail, TOKEN_NUMBERS};
 use crate::rng::Rng;
 use crate::targeted::bad_body;
 use crate::token_args::{good_args, TokenArgs};
 use crate::values;
+use crate::versions::large_version_args;
 use reference::{write_file, write_record, write_token, Header, Refusal};
 
 /// The arguments of one writer.
@@ -66,16 +67,19 @@ impl WriteArgs {
 }
 
 /// One call for each of the twenty token kinds, for the file token and for
-/// records with either header. About half of those that can be refused for
-/// their values are.
+/// records with either header, and one more for each header with a version
+/// that is too large. About half of the others that can be refused for their
+/// values are.
 pub fn write_calls(rng: &mut Rng) -> Vec<WriteCall> {
-    let mut all = Vec::with_capacity(TOKEN_NUMBERS.len() + 3);
+    let mut all = Vec::with_capacity(TOKEN_NUMBERS.len() + 5);
     for number in TOKEN_NUMBERS {
         all.push(WriteArgs::Token(token(rng, number)));
     }
     all.push(file(rng));
     all.push(record(rng, 0x14));
     all.push(record(rng, 0x74));
+    all.push(large_version_args(rng, 0x14));
+    all.push(large_version_args(rng, 0x74));
     all.into_iter()
         .map(|args| {
             let room = room(rng, args.size());
@@ -183,10 +187,9 @@ fn file(rng: &mut Rng) -> WriteArgs {
 
 /// A record's arguments, good or not.
 fn record(rng: &mut Rng, number: u8) -> WriteArgs {
-    let mut header = good_header(rng);
-    header.number = number;
-    if number == 0x14 {
-        header.seconds &= 0xFFFF_FFFF;
+    let mut header = good_header_of(rng, number);
+    if rng.chance(8) {
+        header.version = rng.pick(&[254, 255, 256, u16::MAX]);
     }
     if rng.chance(4) {
         let any = rng.u64();

@@ -121,10 +121,10 @@ fn damage_file(rng: &mut Rng, file: &mut [u8]) {
 
 /// Damages the record at `start`.
 fn damage_record(rng: &mut Rng, trail: &mut Vec<u8>, start: usize, size: usize) {
-    const COUNTS: [u32; 9] = [0, 25, 26, 27, 33, 34, 65_535, 65_536, u32::MAX];
+    const COUNTS: [u32; 10] = [0, 24, 25, 26, 32, 33, 34, 65_535, 65_536, u32::MAX];
     let end = start + size;
     let head = header_size(trail[start]);
-    match rng.below(12) {
+    match rng.below(13) {
         0 if rng.chance(2) => trail[start] = rng.byte(),
         0 => trail[start] = rng.pick(&[0x11, 0x13, 0x14, 0x74]),
         1 | 2 => {
@@ -146,12 +146,19 @@ fn damage_record(rng: &mut Rng, trail: &mut Vec<u8>, start: usize, size: usize) 
         5 => damage_nanoseconds(rng, &mut trail[start..end]),
         6 => trail.truncate(start + rng.below(size)),
         _ if size < head + 7 => damage_bytes(rng, trail),
+        7 => {
+            // A version of two bytes.
+            let mut wide = trail[start..start + head].to_vec();
+            wide.insert(5, 0);
+            let new = framed(&wide, &trail[start + head..end - 7]);
+            trail.splice(start..end, new);
+        }
         way => {
             // The body changes, mostly with the sizes put right again.
             let mut body = trail[start + head..end - 7].to_vec();
             damage_body(rng, &mut body);
             let mut new = framed(&trail[start..start + head], &body);
-            if way == 7 {
+            if way == 8 {
                 set(&mut new, 1, &(size as u32).to_be_bytes());
             }
             trail.splice(start..end, new);
@@ -162,10 +169,11 @@ fn damage_record(rng: &mut Rng, trail: &mut Vec<u8>, start: usize, size: usize) 
 /// Sets the nanoseconds of a record to a bound.
 fn damage_nanoseconds(rng: &mut Rng, record: &mut [u8]) {
     let nanos = rng.pick(&[999_999_999, 1_000_000_000, u64::MAX, 1 << 32, 1 << 63]);
+    let end = header_size(record[0]);
     if record[0] == 0x14 {
-        set(record, 15, &(nanos as u32).to_be_bytes());
+        set(record, end - 4, &(nanos as u32).to_be_bytes());
     } else {
-        set(record, 19, &nanos.to_be_bytes());
+        set(record, end - 8, &nanos.to_be_bytes());
     }
 }
 

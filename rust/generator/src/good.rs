@@ -43,7 +43,7 @@ pub fn good_body(rng: &mut Rng) -> Vec<u8> {
     let mut body = Vec::new();
     for _ in 0..count {
         let token = good_token(rng);
-        if body.len() + token.len() <= RECORD_MAX - 34 {
+        if body.len() + token.len() <= RECORD_MAX - header_size(0x74) - 7 {
             body.extend(token);
         }
     }
@@ -53,9 +53,14 @@ pub fn good_body(rng: &mut Rng) -> Vec<u8> {
 /// A good header of either kind.
 pub fn good_header(rng: &mut Rng) -> Header {
     let number = rng.pick(&[0x14, 0x74]);
+    good_header_of(rng, number)
+}
+
+/// A good header with this number.
+pub(crate) fn good_header_of(rng: &mut Rng, number: u8) -> Header {
     Header {
         number,
-        version: rng.u16(),
+        version: values::version(rng),
         event: rng.u16(),
         modifier: rng.u16(),
         seconds: rng.number(if number == 0x14 { 32 } else { 64 }),

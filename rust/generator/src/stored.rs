@@ -4,6 +4,7 @@
 
 use crate::good::{record_bytes, token_with};
 use crate::layout::{raw_file, raw_record, set};
+use crate::page::page_record;
 use reference::{program_output, write_file, Header, Party, WriteToken};
 
 /// A stored file: its path below `crates/bsmlist`, and its bytes.
@@ -48,6 +49,7 @@ fn inputs() -> Vec<(&'static str, Vec<u8>)> {
     all.extend(bad_texts());
     all.extend(bad_names());
     all.extend(bad_times());
+    all.extend(wide_versions());
     all.extend(sizes());
     all
 }
@@ -56,7 +58,7 @@ fn inputs() -> Vec<(&'static str, Vec<u8>)> {
 fn mixed() -> Vec<u8> {
     let wide = Header {
         number: 0x74,
-        version: 11,
+        version: 255,
         event: u16::MAX,
         modifier: u16::MAX,
         seconds: u64::MAX,
@@ -84,7 +86,7 @@ fn cuts() -> Vec<(&'static str, Vec<u8>)> {
         ("cut_17", 17),
         ("cut_18", 18),
         ("cut_40", 40),
-        ("cut_119", 119),
+        ("cut_118", 118),
     ]
     .map(|(name, length)| (name, trail[..length].to_vec()))
     .to_vec()
@@ -163,6 +165,23 @@ fn bad_times() -> Vec<(&'static str, Vec<u8>)> {
     ]
 }
 
+/// Records with a version of two bytes, as the manual page has it: the one of
+/// case 9 before P2, and a usual one. Where the nanoseconds stand now, the
+/// latter has the last byte of its seconds first, here the least that is too
+/// large.
+fn wide_versions() -> Vec<(&'static str, Vec<u8>)> {
+    let old = page_record(&HEADER, b"");
+    let header = Header {
+        seconds: booking_header().seconds / 256 * 256 + 60,
+        ..booking_header()
+    };
+    let usual = page_record(&header, &booking_body());
+    vec![
+        ("no6_version", joined(&[file_a(), old])),
+        ("no9_version", joined(&[file_a(), smallest(), usual])),
+    ]
+}
+
 /// An accepted trail of as many bytes as the program takes, and one more
 /// byte.
 fn sizes() -> Vec<(&'static str, Vec<u8>)> {
@@ -202,12 +221,19 @@ fn file(seconds: u32, microseconds: u32, name: &[u8]) -> Vec<u8> {
 
 /// A usual record of four tokens.
 fn booking() -> Vec<u8> {
-    let header = Header {
+    record_bytes(&booking_header(), &booking_body())
+}
+
+fn booking_header() -> Header {
+    Header {
         event: 6_152,
         seconds: 1_763_200_000,
         nanoseconds: 999_999_999,
         ..HEADER
-    };
+    }
+}
+
+fn booking_body() -> Vec<u8> {
     let subject = WriteToken::Subject32(Party {
         audit: 1_000,
         effective_user: 1_000,
@@ -221,13 +247,12 @@ fn booking() -> Vec<u8> {
     });
     let path = WriteToken::Path { text: &[] };
     let text = WriteToken::Text { text: &[] };
-    let body = joined(&[
+    joined(&[
         token_with(subject, Vec::new()),
         token_with(path, b"/bookings/cancel".to_vec()),
         token_with(text, b"charter 4711".to_vec()),
         return32(),
-    ]);
-    record_bytes(&header, &body)
+    ])
 }
 
 fn return32() -> Vec<u8> {

@@ -95,8 +95,8 @@ fn bad_count(rng: &mut Rng) -> Vec<u8> {
         1 => 65_536,
         2 => rng.below(least as usize) as u32,
         3 => rng.u32() | 0x1_0000,
-        4 => rng.pick(&[0, 1, 7, 19, 25, u32::MAX, 1 << 31]),
-        _ => rng.pick(&[0x1_001A, 0x0100_001A, 0x1_0022, 0x8000_001A]),
+        4 => rng.pick(&[0, 1, 7, 18, 24, u32::MAX, 1 << 31]),
+        _ => rng.pick(&[0x1_0019, 0x0100_0019, 0x1_0021, 0x8000_0019]),
     };
     set(&mut record, 1, &count.to_be_bytes());
     if rng.chance(2) {
@@ -128,13 +128,14 @@ fn bad_trailer(rng: &mut Rng) -> Vec<u8> {
             record.insert(at, rng.byte());
         }
         _ => {
-            let count = (size as u32).saturating_sub(1).max(34);
+            let count = (size as u32).saturating_sub(1).max(33);
             set(&mut record, 1, &count.to_be_bytes());
         }
     }
     if rng.chance(3) {
         // 9 would come later.
-        set(&mut record, 15, &[0xFF; 4]);
+        let end = header_size(record[0]);
+        set(&mut record, end - 4, &[0xFF; 4]);
     }
     record
 }
@@ -263,7 +264,7 @@ pub fn many_faults(rng: &mut Rng) -> Vec<u8> {
         }
         let mut record = raw_record(&header, &body);
         if rng.chance(4) {
-            let count = rng.pick(&[0, 25, 26, 33, 34, 65_535, 65_536, u32::MAX]);
+            let count = rng.pick(&[0, 24, 25, 32, 33, 34, 65_535, 65_536, u32::MAX]);
             set(&mut record, 1, &count.to_be_bytes());
         }
         if rng.chance(3) {

@@ -56,10 +56,10 @@ pub(crate) fn name(rng: &mut Rng) -> Vec<u8> {
 /// A whole record without body, or a trailer alone.
 fn look_alike(rng: &mut Rng) -> Vec<u8> {
     let record = [
-        0x14, 0, 0, 0, 0x1A, 0, 0x0B, 0, 0x48, 0, 0, 0, 0, 0, 1, 0, 0, 0, 2, 0x13, 0xB1, 0x05, 0,
-        0, 0, 0x1A,
+        0x14, 0, 0, 0, 0x19, 0x0B, 0, 0x48, 0, 0, 0, 0, 0, 1, 0, 0, 0, 2, 0x13, 0xB1, 0x05, 0, 0,
+        0, 0x19,
     ];
-    let mut bytes = record[rng.pick(&[0, 19])..].to_vec();
+    let mut bytes = record[rng.pick(&[0, 18])..].to_vec();
     if rng.chance(4) {
         let last = bytes.len() - 1;
         bytes[last] = rng.byte();
@@ -120,6 +120,16 @@ pub(crate) fn groups(rng: &mut Rng) -> Vec<u32> {
     (0..count).map(|_| rng.u32()).collect()
 }
 
+/// A version that fits its byte, often a usual one or at a bound.
+pub(crate) fn version(rng: &mut Rng) -> u16 {
+    match rng.below(6) {
+        0 => 0,
+        1 => 11,
+        2 => 255,
+        _ => rng.u8().into(),
+    }
+}
+
 /// A time fraction of at most `most`, often at a bound.
 pub(crate) fn fraction(rng: &mut Rng, most: u32) -> u32 {
     match rng.below(6) {
@@ -130,7 +140,7 @@ pub(crate) fn fraction(rng: &mut Rng, most: u32) -> u32 {
     }
 }
 
-/// A time fraction over `most` of at most `width` bits.
+/// A number over `most` of at most `width` bits.
 pub(crate) fn over(rng: &mut Rng, most: u64, width: u32) -> u64 {
     let all = u64::MAX >> (64 - width);
     match rng.below(5) {

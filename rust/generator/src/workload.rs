@@ -33,7 +33,7 @@ fn printable(rng: &mut Rng, length: usize) -> Vec<u8> {
     text
 }
 
-/// Small records, 26 to 60 bytes each, of both headers.
+/// Small records, 25 to 59 bytes each, of both headers.
 pub fn small_records(bytes: usize) -> Vec<u8> {
     trail_of(1, bytes, |rng| {
         let number = rng.pick(&[0x14, 0x14, 0x14, 0x74]);

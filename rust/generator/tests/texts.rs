@@ -119,14 +119,14 @@ fn spoilt_texts_of_every_kind() {
         *seen.told.entry(kind).or_insert(0) += 1;
         match trail[start] {
             0x11 => seen.file(&trail[start..]),
-            0x14 => seen.record(&trail[start..], 19),
-            _ => seen.record(&trail[start..], 27),
+            0x14 => seen.record(&trail[start..], 18),
+            _ => seen.record(&trail[start..], 26),
         }
     }
     println!("{:02X?}", (&seen.told, &seen.tokens, &seen.places));
     let each = |number| HOW.map(|how| (number, how));
     often(&seen.tokens, TEXT_NUMBERS.into_iter().flat_map(each));
-    for head in [19, 27] {
+    for head in [18, 26] {
         let places = ["first", "middle", "last", "only"];
         often(&seen.places, places.map(|place| (head, place)));
     }

@@ -15,10 +15,10 @@ fn records(trail: &[u8]) -> Vec<Item<'_>> {
 #[test]
 fn sizes_are_as_named() {
     let small = small_records(100_000);
-    assert!((100_000..100_060).contains(&small.len()));
+    assert!((100_000..100_059).contains(&small.len()));
     let items = records(&small);
-    assert!(items.iter().all(|item| (26..=60).contains(&item.size())));
-    assert!(items.iter().any(|item| item.size() == 26));
+    assert!(items.iter().all(|item| (25..=59).contains(&item.size())));
+    assert!(items.iter().any(|item| item.size() == 25));
     assert!(items.iter().any(|item| item.size() > 50));
 
     let usual = usual_records(100_000);

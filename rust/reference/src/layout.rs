@@ -29,9 +29,9 @@ pub(crate) const PROCESS64: u8 = 0x77;
 /// Size of a file token without its name.
 pub(crate) const FILE_FIXED: usize = 11;
 /// Size of a header with 4-byte times.
-pub(crate) const HEADER32_SIZE: usize = 19;
+pub(crate) const HEADER32_SIZE: usize = 18;
 /// Size of a header with 8-byte times.
-pub(crate) const HEADER64_SIZE: usize = 27;
+pub(crate) const HEADER64_SIZE: usize = 26;
 /// Size of the trailer.
 pub(crate) const TRAILER_SIZE: usize = 7;
 /// Largest size of a record.

@@ -1,4 +1,4 @@
-//! The cases of paper 01, section 'Cases'.
+//! The cases of paper 01, section 'Cases', with the header of paper 02, P2.
 
 use reference::*;
 
@@ -17,8 +17,8 @@ fn hex(digits: &str) -> Vec<u8> {
 /// A record as in case 9 with this body and its right size.
 fn case_nine(body: &str) -> Vec<u8> {
     let body = hex(body);
-    let count = format!("{:08X}", 26 + body.len());
-    let mut record = hex(&format!("14 {count} 000B 0048 0000 00000001 00000002"));
+    let count = format!("{:08X}", 25 + body.len());
+    let mut record = hex(&format!("14 {count} 0B 0048 0000 00000001 00000002"));
     record.extend_from_slice(&body);
     record.extend_from_slice(&hex(&format!("13 B105 {count}")));
     record
@@ -69,18 +69,20 @@ fn case_4_trailer_is_no_item() {
 
 #[test]
 fn cases_5_to_8_bounds_of_the_count() {
-    assert_eq!(refused(&hex("14 00000019"), 0), (4, 0, 0));
+    assert_eq!(refused(&hex("14 00000018"), 0), (4, 0, 0));
+    assert_eq!(refused(&hex("14 00000019"), 0), (1, 0, 25));
     assert_eq!(refused(&hex("14 0000001A"), 0), (1, 0, 26));
     assert_eq!(refused(&hex("14 0000FFFF"), 0), (1, 0, 65_535));
     assert_eq!(refused(&hex("14 00010000"), 0), (4, 0, 0));
-    assert_eq!(refused(&hex("74 00000021"), 0), (4, 0, 0));
+    assert_eq!(refused(&hex("74 00000020"), 0), (4, 0, 0));
+    assert_eq!(refused(&hex("74 00000021"), 0), (1, 0, 33));
     assert_eq!(refused(&hex("74 00000022"), 0), (1, 0, 34));
     assert_eq!(refused(&hex("74 FFFFFFFF"), 0), (4, 0, 0));
 }
 
 #[test]
 fn case_9_record_without_body() {
-    let trail = hex("14 0000001A 000B 0048 0000 00000001 00000002 13 B105 0000001A");
+    let trail = hex("14 00000019 0B 0048 0000 00000001 00000002 13 B105 00000019");
     assert_eq!(trail, case_nine(""));
     let header = Header {
         number: 0x14,
@@ -91,7 +93,7 @@ fn case_9_record_without_body() {
         nanoseconds: 2,
     };
     let item = Item::Record {
-        size: 26,
+        size: 25,
         header,
         body: &[],
         tokens: 0,
@@ -99,24 +101,83 @@ fn case_9_record_without_body() {
     assert_eq!(item_at(&trail, 0), Answer::Item(item));
 }
 
+/// Each field of either header from bytes that no other field has.
+#[test]
+fn fields_of_both_headers() {
+    let small = hex("14 00000019 A1 B1B2 C1C2 D1D2D3D4 01E2E3E4 13 B105 00000019");
+    let wide = "74 00000021 A1 B1B2 C1C2 D1D2D3D4D5D6D7D8 0000000001E2E3E4 13 B105 00000021";
+    let wide = hex(wide);
+    for (trail, seconds) in [(small, 0xD1D2_D3D4), (wide, 0xD1D2_D3D4_D5D6_D7D8)] {
+        let header = Header {
+            number: trail[0],
+            version: 0xA1,
+            event: 0xB1B2,
+            modifier: 0xC1C2,
+            seconds,
+            nanoseconds: 0x01E2_E3E4,
+        };
+        let item = Item::Record {
+            size: trail.len(),
+            header,
+            body: &[],
+            tokens: 0,
+        };
+        assert_eq!(item_at(&trail, 0), Answer::Item(item));
+        let mut again = vec![0; trail.len()];
+        assert_eq!(write_record(&mut again, &header, &[]), Ok(trail.len()));
+        assert_eq!(again, trail);
+    }
+}
+
+/// A record with two bytes for the version, as case 9 had them before paper
+/// 02, P2. All but the count and the trailer is read one byte off.
+fn two_bytes(seconds: u32, nanoseconds: u32, body: &str) -> Vec<u8> {
+    let body = hex(body);
+    let count = format!("{:08X}", 26 + body.len());
+    let head = format!("14 {count} 000B 0048 0000 {seconds:08X} {nanoseconds:08X}");
+    [hex(&head), body, hex(&format!("13 B105 {count}"))].concat()
+}
+
+#[test]
+fn versions_of_two_bytes_are_not_guessed() {
+    let old_case_9 = two_bytes(1, 2, "");
+    assert_eq!(refused(&old_case_9, 0), (6, 18, 0));
+    for (seconds, nanoseconds, body, refusal) in [
+        (59, 999_999_999, "", (6, 18, 0)),
+        (60, 0, "", (9, 0, 0)),
+        (255, 0x2C, "27 00 290001FF", (9, 0, 0)),
+        (256, 0x2C, "", (7, 18, 0)),
+        (1, 0x2C, "27 00 00000000", (6, 21, 0)),
+        (1, 0x2D, "52 00000000 00000000", (8, 24, 0)),
+    ] {
+        let trail = two_bytes(seconds, nanoseconds, body);
+        assert_eq!(refused(&trail, 0), refusal, "{seconds} {nanoseconds}");
+        let end = trail.len() - 1;
+        assert_eq!(refused(&trail[..end], 0), (1, 0, trail.len()));
+    }
+    // One that is a record of another event and time.
+    let taken = two_bytes(1, 0x2C, "27 00 290001FF");
+    assert_eq!(record(&taken), (taken.len(), 0x0B00, 2));
+}
+
 #[test]
 fn case_10_one_token() {
     let trail = case_nine("27 00 00000000");
-    assert_eq!(trail.len(), 32);
-    assert_eq!(record(&trail), (32, 72, 1));
+    assert_eq!(trail.len(), 31);
+    assert_eq!(record(&trail), (31, 72, 1));
 }
 
 #[test]
 fn case_11_wrong_trailer() {
     let mut trail = case_nine("");
-    trail[25] = 0x1B;
+    trail[24] = 0x1A;
     assert_eq!(refused(&trail, 0), (5, 0, 0));
-    trail[15..19].copy_from_slice(&1_000_000_000u32.to_be_bytes());
+    trail[14..18].copy_from_slice(&1_000_000_000u32.to_be_bytes());
     assert_eq!(refused(&trail, 0), (5, 0, 0));
-    trail[25] = 0x1A;
+    trail[24] = 0x19;
     assert_eq!(refused(&trail, 0), (9, 0, 0));
-    trail[15..19].copy_from_slice(&999_999_999u32.to_be_bytes());
-    assert_eq!(record(&trail), (26, 72, 0));
+    trail[14..18].copy_from_slice(&999_999_999u32.to_be_bytes());
+    assert_eq!(record(&trail), (25, 72, 0));
 }
 
 #[test]
@@ -139,29 +200,29 @@ fn case_13_early_zero_in_the_name() {
 
 #[test]
 fn case_14_token_leaves_the_body() {
-    assert_eq!(refused(&case_nine("2C 00"), 0), (7, 19, 0));
+    assert_eq!(refused(&case_nine("2C 00"), 0), (7, 18, 0));
 }
 
 #[test]
 fn case_15_no_token_number() {
-    assert_eq!(refused(&case_nine("00"), 0), (6, 19, 0));
+    assert_eq!(refused(&case_nine("00"), 0), (6, 18, 0));
     for number in ["11", "13", "14", "74"] {
-        assert_eq!(refused(&case_nine(number), 0), (6, 19, 0));
+        assert_eq!(refused(&case_nine(number), 0), (6, 18, 0));
     }
 }
 
 #[test]
 fn case_16_trailer_inside_an_opaque() {
-    let trail = case_nine("29 0007 13 B105 0000001A");
-    assert_eq!(trail.len(), 36);
-    assert_eq!(record(&trail), (36, 72, 1));
+    let trail = case_nine("29 0007 13 B105 00000019");
+    assert_eq!(trail.len(), 35);
+    assert_eq!(record(&trail), (35, 72, 1));
 }
 
 #[test]
 fn case_17_listing() {
     let mut trail = hex("11 00000005 00000007 0002 61 00");
     trail.extend_from_slice(&case_nine(""));
-    let expected = b"bsmlist\t1\nF\t0\t13\t5\t7\nR\t13\t26\t72\t0\t1\t2\t0\nE\t1\t1\n";
+    let expected = b"bsmlist\t1\nF\t0\t13\t5\t7\nR\t13\t25\t72\t0\t1\t2\t0\nE\t1\t1\n";
     assert_eq!(listing(&trail), expected);
     assert_eq!(program_output(&trail), expected);
 }
@@ -170,7 +231,7 @@ fn case_17_listing() {
 fn places_are_those_of_the_buffer() {
     let mut trail = hex("11 00000005 00000007 0002 61 00");
     trail.extend_from_slice(&case_nine("27 00 00000000 28 0001 61"));
-    assert_eq!(refused(&trail, 13), (8, 13 + 19 + 6 + 3, 0));
+    assert_eq!(refused(&trail, 13), (8, 13 + 18 + 6 + 3, 0));
     assert_eq!(refused(&trail, 12), (3, 12, 0));
     assert_eq!(item_at(&trail, trail.len()), Answer::End);
     let end = trail.len() + 1;
@@ -220,15 +281,15 @@ fn file_names_report_the_byte() {
     ] {
         let mut trail = before.clone();
         trail.extend(hex(&format!("11 00000005 00000007 {length_and_name}")));
-        assert_eq!(refused(&trail, 26), (8, 26 + place, 0), "{length_and_name}");
+        assert_eq!(refused(&trail, 25), (8, 25 + place, 0), "{length_and_name}");
         let stopped = run(&trail, State::default());
         assert_eq!(
             stopped.refusal.map(|r| (r.number, r.place)),
-            Some((8, 26 + place))
+            Some((8, 25 + place))
         );
-        assert_eq!(stopped.state.place, 26);
+        assert_eq!(stopped.state.place, 25);
         trail.extend(hex("00 FF 11"));
-        assert_eq!(refused(&trail, 26), (8, 26 + place, 0), "{length_and_name}");
+        assert_eq!(refused(&trail, 25), (8, 25 + place, 0), "{length_and_name}");
     }
 }
 
@@ -274,9 +335,9 @@ fn texts_of_records_report_the_byte() {
         let body = format!("2C 0016 {token} 27 00 00000000");
         let mut trail = hex("11 00000005 00000007 0002 61 00");
         trail.extend(case_nine(&body));
-        assert_eq!(refused(&trail, 13), (8, 13 + 19 + 3 + at, 0), "{token}");
+        assert_eq!(refused(&trail, 13), (8, 13 + 18 + 3 + at, 0), "{token}");
         let mut wide = header64(&hex(&body));
-        assert_eq!(refused(&wide, 0), (8, 27 + 3 + at, 0), "{token}");
+        assert_eq!(refused(&wide, 0), (8, 26 + 3 + at, 0), "{token}");
         wide[4] -= 1;
         assert_eq!(refused(&wide, 0), (5, 0, 0), "5 comes first");
     }
@@ -284,8 +345,8 @@ fn texts_of_records_report_the_byte() {
 
 /// A header64 record around this body.
 fn header64(body: &[u8]) -> Vec<u8> {
-    let count = (34 + body.len() as u32).to_be_bytes();
-    let fields = hex("000B 0048 0000 0000000000000001 0000000000000002");
+    let count = (33 + body.len() as u32).to_be_bytes();
+    let fields = hex("0B 0048 0000 0000000000000001 0000000000000002");
     [&[0x74], &count[..], &fields, body, &hex("13 B105"), &count].concat()
 }
 
@@ -293,17 +354,17 @@ fn header64(body: &[u8]) -> Vec<u8> {
 fn runs_from_states() {
     let mut trail = hex("11 00000005 00000007 0002 61 00");
     trail.extend_from_slice(&case_nine(""));
-    trail.extend_from_slice(&case_nine("")[..25]);
+    trail.extend_from_slice(&case_nine("")[..24]);
     let fresh = run(&trail, State::default());
     let state = State {
-        place: 39,
+        place: 38,
         records: 1,
         files: 1,
     };
     let refusal = Some(Refusal {
         number: 1,
-        place: 39,
-        need: 26,
+        place: 38,
+        need: 25,
     });
     assert_eq!(fresh, Run { state, refusal });
     let (items, same) = reading(&trail, State::default());
@@ -314,14 +375,14 @@ fn runs_from_states() {
     let bad = case_nine("00");
     let refusal = Some(Refusal {
         number: 6,
-        place: 19,
+        place: 18,
         need: 0,
     });
     let state = State::default();
     assert_eq!(run(&bad, state), Run { state, refusal });
 
     for (place, records, files) in [
-        (66, 0, 0),
+        (trail.len() + 1, 0, 0),
         (13, 14, 0),
         (13, 7, 7),
         (0, 0, 1),

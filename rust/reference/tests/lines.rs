@@ -39,7 +39,7 @@ fn all_lines() {
         "F\t100\t13\t4294967295\t0\n"
     );
     let record = Item::Record {
-        size: 34,
+        size: 33,
         header: Header {
             number: 0x74,
             version: 11,
@@ -54,7 +54,7 @@ fn all_lines() {
     assert_eq!(
         line(|dst| item_line(dst, usize::MAX, &record)),
         format!(
-            "R\t{}\t34\t65535\t10\t18446744073709551615\t999999999\t7\n",
+            "R\t{}\t33\t65535\t10\t18446744073709551615\t999999999\t7\n",
             usize::MAX
         )
     );

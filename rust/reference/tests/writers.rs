@@ -229,7 +229,7 @@ fn file_name_edge() {
 
 #[test]
 fn record_size_edge() {
-    for (number, fixed) in [(0x14, 26), (0x74, 34)] {
+    for (number, fixed) in [(0x14, 25), (0x74, 33)] {
         let body = opaque(65_535 - fixed);
         let good = written(65_540, |dst| write_record(dst, &header(number), &body)).unwrap();
         assert_eq!(good.len(), 65_535);
@@ -256,7 +256,7 @@ fn record_size_edge() {
 
 #[test]
 fn record_order() {
-    let over = opaque(65_536 - 26);
+    let over = opaque(65_536 - 25);
     let bad_body = b"\x27\0\0\0\0\0\x00";
     let mut late = header(0x14);
     late.seconds = 1 << 32;
@@ -293,20 +293,68 @@ fn record_order() {
     }
 }
 
+/// Paper 02, P2: each version that fits one byte is written and read back,
+/// each other one is too large.
+#[test]
+fn every_version() {
+    for number in [0x14, 0x74] {
+        for version in 0..=u16::MAX {
+            let head = Header {
+                version,
+                ..header(number)
+            };
+            let answer = written(40, |dst| write_record(dst, &head, &[]));
+            let Ok(low) = u8::try_from(version) else {
+                assert_eq!(answer, refusal(11, 0));
+                continue;
+            };
+            let bytes = answer.unwrap();
+            assert_eq!(bytes[5], low);
+            assert!(matches!(
+                item_at(&bytes, 0),
+                Answer::Item(Item::Record { header, .. }) if header == head
+            ));
+        }
+    }
+}
+
+/// A version that is too large is told after 4 and before all others.
+#[test]
+fn order_of_a_version() {
+    for (number, fixed) in [(0x14, 25), (0x74, 33)] {
+        for version in [256, 257, 0x0B00, u16::MAX] {
+            let mut head = header(number);
+            head.version = version;
+            let over = opaque(65_536 - fixed);
+            let answer = written(0, |dst| write_record(dst, &head, &over));
+            assert_eq!(answer, refusal(4, 0));
+            for nanoseconds in [2, 1_000_000_000, 1 << 32] {
+                head.nanoseconds = nanoseconds;
+                for body in [&b""[..], b"\0", b"\x2C\0", b"\x28\0\0"] {
+                    for room in [0, 100] {
+                        let answer = written(room, |dst| write_record(dst, &head, body));
+                        assert_eq!(answer, refusal(11, 0));
+                    }
+                }
+            }
+        }
+    }
+}
+
 #[test]
 fn wide_times() {
     let mut head = header(0x74);
     head.seconds = u64::MAX;
     head.nanoseconds = 999_999_999;
-    let bytes = written(34, |dst| write_record(dst, &head, &[])).unwrap();
-    assert_eq!(bytes[11..19], [0xFF; 8]);
-    assert_eq!(bytes[19..27], [0, 0, 0, 0, 0x3B, 0x9A, 0xC9, 0xFF]);
+    let bytes = written(33, |dst| write_record(dst, &head, &[])).unwrap();
+    assert_eq!(bytes[10..18], [0xFF; 8]);
+    assert_eq!(bytes[18..26], [0, 0, 0, 0, 0x3B, 0x9A, 0xC9, 0xFF]);
     assert!(matches!(
         item_at(&bytes, 0),
         Answer::Item(Item::Record { header, .. }) if header == head
     ));
     let mut bad = bytes.clone();
-    bad[19] = 1;
+    bad[18] = 1;
     assert!(matches!(
         item_at(&bad, 0),
         Answer::Refused(Refusal {
@@ -317,7 +365,7 @@ fn wide_times() {
     ));
     head.number = 0x14;
     head.seconds = u64::from(u32::MAX);
-    let bytes = written(26, |dst| write_record(dst, &head, &[])).unwrap();
+    let bytes = written(25, |dst| write_record(dst, &head, &[])).unwrap();
     assert!(matches!(
         item_at(&bytes, 0),
         Answer::Item(Item::Record { header, .. }) if header == head

@@ -124,7 +124,7 @@ pub fn every_token() -> Vec<NewToken<'static>> {
 pub fn tokens_trail() -> Vec<u8> {
     let mut wide = header(u16::MAX, u64::MAX);
     wide.kind = HeaderKind::Header64;
-    wide.version = u16::MAX;
+    wide.version = 255;
     wide.modifier = u16::MAX;
     wide.nanoseconds = 999_999_999;
     let second = |token: &NewToken<'_>| matches!(token, Token::Subject64(_));

@@ -1,7 +1,7 @@
-//! The cases of paper 01, read through the crate `bsm`.
+//! The cases of paper 01, with the header of paper 02, P2, read through the crate `bsm`.
 
 use bsm::{item_at, Cursor, Item, Reason, Refusal, Token};
-use generator::{raw_file, raw_record};
+use generator::{page_record, raw_file, raw_record};
 
 /// The header of case 9.
 const HEADER: reference::Header = reference::Header {
@@ -34,7 +34,7 @@ fn refused(reason: Reason, place: usize, need: usize) -> Result<Option<Item<'sta
 /// The record of case 9 with this body.
 fn accepted(body: &[u8], tokens: usize) -> Result<Option<Item<'_>>, Refusal> {
     Ok(Some(Item::Record {
-        size: 26 + body.len(),
+        size: 25 + body.len(),
         header: compare::header(HEADER),
         body,
         tokens,
@@ -49,7 +49,8 @@ fn cases_1_to_8_starts_of_items() {
     assert_eq!(item_at(&[0x14], 0), refused(Reason::Short, 0, 5));
     assert_eq!(item_at(&[0x13], 0), refused(Reason::NotAnItem, 0, 0));
     let length = refused(Reason::RecordLength, 0, 0);
-    assert_eq!(item_at(&start(0x19), 0), length);
+    assert_eq!(item_at(&start(0x18), 0), length);
+    assert_eq!(item_at(&start(0x19), 0), refused(Reason::Short, 0, 25));
     assert_eq!(item_at(&start(0x1A), 0), refused(Reason::Short, 0, 26));
     assert_eq!(
         item_at(&start(0xFFFF), 0),
@@ -61,16 +62,24 @@ fn cases_1_to_8_starts_of_items() {
 #[test]
 fn case_9_record_without_body() {
     let trail = record(b"");
-    assert_eq!(trail.len(), 26);
+    assert_eq!(trail.len(), 25);
     assert_eq!(item_at(&trail, 0), accepted(b"", 0));
+}
+
+/// The bytes of case 9 before P2, with two for the version.
+#[test]
+fn case_9_with_a_longer_version() {
+    let trail = page_record(&HEADER, b"");
+    assert_eq!(trail.len(), 26);
+    assert_eq!(item_at(&trail, 0), refused(Reason::NotABodyToken, 18, 0));
 }
 
 #[test]
 fn case_10_record_with_a_return_token() {
     let body = [0x27, 0, 0, 0, 0, 0];
     let trail = record(&body);
-    assert_eq!(trail.len(), 32);
-    assert_eq!((trail[4], trail[31]), (32, 32));
+    assert_eq!(trail.len(), 31);
+    assert_eq!((trail[4], trail[30]), (31, 31));
     assert_eq!(item_at(&trail, 0), accepted(&body, 1));
     let tokens: Vec<_> = bsm::tokens(&body).collect();
     assert_eq!(tokens, [Ok(Token::Return32 { error: 0, value: 0 })]);
@@ -79,9 +88,9 @@ fn case_10_record_with_a_return_token() {
 #[test]
 fn case_11_trailer_with_another_length() {
     let mut trail = record(b"");
-    trail[25] = 0x1B;
+    trail[24] = 0x1A;
     assert_eq!(item_at(&trail, 0), refused(Reason::Trailer, 0, 0));
-    trail[15..19].copy_from_slice(&1_000_000_000u32.to_be_bytes());
+    trail[14..18].copy_from_slice(&1_000_000_000u32.to_be_bytes());
     assert_eq!(item_at(&trail, 0), refused(Reason::Trailer, 0, 0));
 }
 
@@ -102,15 +111,15 @@ fn cases_12_and_13_file_tokens() {
 fn cases_14_to_16_bodies() {
     assert_eq!(
         item_at(&record(&[0x2C, 0]), 0),
-        refused(Reason::PastEnd, 19, 0)
+        refused(Reason::PastEnd, 18, 0)
     );
     assert_eq!(
         item_at(&record(&[0]), 0),
-        refused(Reason::NotABodyToken, 19, 0)
+        refused(Reason::NotABodyToken, 18, 0)
     );
-    let opaque = [0x29, 0, 7, 0x13, 0xB1, 0x05, 0, 0, 0, 0x1A];
+    let opaque = [0x29, 0, 7, 0x13, 0xB1, 0x05, 0, 0, 0, 0x19];
     let trail = record(&opaque);
-    assert_eq!(trail.len(), 36);
+    assert_eq!(trail.len(), 35);
     assert_eq!(item_at(&trail, 0), accepted(&opaque, 1));
 }
 
@@ -120,7 +129,7 @@ fn case_17_listing() {
     let lines = [
         "bsmlist\t1\n",
         "F\t0\t13\t5\t7\n",
-        "R\t13\t26\t72\t0\t1\t2\t0\n",
+        "R\t13\t25\t72\t0\t1\t2\t0\n",
         "E\t1\t1\n",
     ];
     let whole = lines.concat();

@@ -164,7 +164,7 @@ fn names_of_1_023_and_1_024_bytes() {
 
 #[test]
 fn records_of_65_535_and_65_536_bytes() {
-    for (kind, around) in [(HeaderKind::Header32, 26), (HeaderKind::Header64, 34)] {
+    for (kind, around) in [(HeaderKind::Header32, 25), (HeaderKind::Header64, 33)] {
         let mut header = Header::new(kind);
         header.version = 11;
         header.event = 1;
@@ -217,7 +217,8 @@ fn times_of_a_record() {
     };
     let over = u64::from(u32::MAX) + 1;
     let (small, large) = (HeaderKind::Header32, HeaderKind::Header64);
-    // 11 comes before 9, 9 before the body's 6; only a header32 has 11.
+    // 11 comes before 9, 9 before the body's 6; the times of a header64
+    // have no 11.
     assert_eq!(write(small, over, 0), refused(Reason::TooLarge));
     assert_eq!(write(small, 0, over), refused(Reason::TooLarge));
     assert_eq!(write(small, over - 1, over - 1), refused(Reason::TimeRange));

@@ -18,7 +18,7 @@ const PATIENCE: Duration = Duration::from_secs(30);
 
 /// A file token and a record, whose listing is whole.
 const TRAIL: &[u8] = b"\x11\0\0\0\x05\0\0\0\x07\0\x02a\0\
-    \x14\0\0\0\x1a\0\x0b\0\x48\0\0\0\0\0\x01\0\0\0\x02\x13\xb1\x05\0\0\0\x1a";
+    \x14\0\0\0\x19\x0b\0\x48\0\0\0\0\0\x01\0\0\0\x02\x13\xb1\x05\0\0\0\x19";
 
 /// Which of the two runs.
 #[derive(Clone, Copy, Debug, PartialEq)]

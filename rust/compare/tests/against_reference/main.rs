@@ -16,4 +16,5 @@ mod texts;
 mod texts_cut;
 mod texts_written;
 mod trails;
+mod versions;
 mod writers;

@@ -2,7 +2,7 @@
 //! (paper 02, P1).
 
 use bsm::{Header, HeaderKind, Reason, Refusal, State, Step};
-use generator::{raw_file, raw_record};
+use generator::{header_size, raw_file, raw_record};
 use std::mem::replace;
 use std::ops::Range;
 
@@ -64,7 +64,7 @@ pub fn in_record(number: u8, token: (u8, usize), around: [&[u8]; 2], text: &[u8]
     let body = [around[0], &bytes, around[1]].concat();
     let file = raw_file(5, 7, 2, b"f\0");
     let item = file.len();
-    let start = item + if number == 0x14 { 19 } else { 27 };
+    let start = item + header_size(number);
     let at = start + around[0].len() + token.1;
     Placed {
         trail: [&file[..], &record(number, &body), &file].concat(),

@@ -1,7 +1,7 @@
 //! What `./soak` does with its seeds, on a few of them.
 
 use compare::soak::{compare_seed, soak};
-use generator::{SPOILT_CALLS, SPOILT_ITEMS, TOKEN_NUMBERS};
+use generator::{LARGE_VERSIONS, SPOILT_CALLS, SPOILT_ITEMS, TOKEN_NUMBERS};
 use std::sync::atomic::{AtomicUsize, Ordering};
 
 #[test]
@@ -19,6 +19,12 @@ fn a_few_seeds_meet_every_answer_and_kind() {
     let shown = soaked.to_string();
     for kind in SPOILT_ITEMS.into_iter().chain(SPOILT_CALLS) {
         let times = soaked.tally.spoilt_times(kind);
+        assert!(times > 100, "{kind:02X?} {times}");
+        let line = format!("\n{times:>12}  {:02X} ", kind.0);
+        assert!(shown.contains(&line), "{line}");
+    }
+    for kind in LARGE_VERSIONS {
+        let times = soaked.tally.version_times(kind);
         assert!(times > 100, "{kind:02X?} {times}");
         let line = format!("\n{times:>12}  {:02X} ", kind.0);
         assert!(shown.contains(&line), "{line}");

@@ -3,7 +3,7 @@
 
 use crate::placed::*;
 use bsm::{Reason, Refusal, State};
-use generator::Rng;
+use generator::{header_size, Rng};
 
 /// The answer at the second item, and that of the run over the trail.
 fn answers(trail: &[u8], item: usize) -> [Option<Refusal>; 2] {
@@ -80,7 +80,7 @@ fn lengths_cut_at_each_byte() {
     for placed in placed(b"").iter().filter(|placed| placed.body.is_some()) {
         let header = placed.trail[placed.item];
         let (body, _) = placed.body.clone().expect("a record");
-        let whole = body.len() + if header == 0x14 { 26 } else { 34 };
+        let whole = header_size(header) + body.len() + 7;
         let place = placed.text.start - 2;
         cuts += cut_at_each_byte(&mut rng, placed, whole, place);
     }

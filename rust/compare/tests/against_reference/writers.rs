@@ -29,6 +29,7 @@ fn destinations_around_the_needed_size() {
     }
     tally.finish("writers", WRITES, [4, 6, 7, 8, 9, 10, 11]);
     tally.finish_texts("writers", &SPOILT_CALLS);
+    tally.finish_versions("writers");
     tally.finish_kinds("writers");
 }
 
