@@ -1,6 +1,7 @@
 // The cases of paper 01, each with what the item reader answers, and what a reader does at that place; the last one is also read
-// whole by a run. Case "path" has a body whose first token is a path; in the cases after it that path has a zero byte inside, a last
-// byte that is not zero, and no byte at all.
+// whole by a run. The smallest records of both headers stand beside case 5, and beside case 9 one whose version has two bytes. Case
+// "path" has a body whose first token is a path; in the cases after it that path has a zero byte inside, a last byte that is not zero,
+// and no byte at all.
 use bsm_item::item::Item;
 use bsm_item::item::ItemRead;
 use bsm_item::read::body_of;
@@ -127,68 +128,76 @@ fn main() {
     case(b"3", b"\x14", 0);
     case(b"4", b"\x13", 0);
     case(b"5", b"\x14\0\0\0\x19", 0);
+    case(b"5 less", b"\x14\0\0\0\x18", 0);
+    case(b"5 header64", b"\x74\0\0\0\x21", 0);
+    case(b"5 header64 less", b"\x74\0\0\0\x20", 0);
     case(b"6", b"\x14\0\0\0\x1a", 0);
     case(b"7", b"\x14\0\0\xff\xff", 0);
     case(b"8", b"\x14\0\x01\0\0", 0);
     case(
         b"9",
+        b"\x14\0\0\0\x19\x0b\0\x48\0\0\0\0\0\x01\0\0\0\x02\x13\xb1\x05\0\0\0\x19",
+        0,
+    );
+    case(
+        b"9 two bytes",
         b"\x14\0\0\0\x1a\0\x0b\0\x48\0\0\0\0\0\x01\0\0\0\x02\x13\xb1\x05\0\0\0\x1a",
         0,
     );
     case(
         b"10",
-        b"\x14\0\0\0\x20\0\x0b\0\x48\0\0\0\0\0\x01\0\0\0\x02\x27\0\0\0\0\0\x13\xb1\x05\0\0\0\x20",
+        b"\x14\0\0\0\x1f\x0b\0\x48\0\0\0\0\0\x01\0\0\0\x02\x27\0\0\0\0\0\x13\xb1\x05\0\0\0\x1f",
         0,
     );
     case(
         b"11",
-        b"\x14\0\0\0\x1a\0\x0b\0\x48\0\0\0\0\0\x01\0\0\0\x02\x13\xb1\x05\0\0\0\x1b",
+        b"\x14\0\0\0\x19\x0b\0\x48\0\0\0\0\0\x01\0\0\0\x02\x13\xb1\x05\0\0\0\x1b",
         0,
     );
     case(
         b"11 nanoseconds",
-        b"\x14\0\0\0\x1a\0\x0b\0\x48\0\0\0\0\0\x01\x3b\x9a\xca\0\x13\xb1\x05\0\0\0\x1b",
+        b"\x14\0\0\0\x19\x0b\0\x48\0\0\0\0\0\x01\x3b\x9a\xca\0\x13\xb1\x05\0\0\0\x1b",
         0,
     );
     case(b"12", b"\x11\0\0\0\x05\0\0\0\x07\0\x02\x61\0", 0);
     case(b"13", b"\x11\0\0\0\x05\0\0\0\x07\0\x03\0\x61\0", 0);
     case(
         b"14",
-        b"\x14\0\0\0\x1c\0\x0b\0\x48\0\0\0\0\0\x01\0\0\0\x02\x2c\0\x13\xb1\x05\0\0\0\x1c",
+        b"\x14\0\0\0\x1b\x0b\0\x48\0\0\0\0\0\x01\0\0\0\x02\x2c\0\x13\xb1\x05\0\0\0\x1b",
         0,
     );
     case(
         b"15",
-        b"\x14\0\0\0\x1b\0\x0b\0\x48\0\0\0\0\0\x01\0\0\0\x02\0\x13\xb1\x05\0\0\0\x1b",
+        b"\x14\0\0\0\x1a\x0b\0\x48\0\0\0\0\0\x01\0\0\0\x02\0\x13\xb1\x05\0\0\0\x1a",
         0,
     );
     case(
         b"16",
-        b"\x14\0\0\0\x24\0\x0b\0\x48\0\0\0\0\0\x01\0\0\0\x02\x29\0\x07\x13\xb1\x05\0\0\0\x1a\x13\xb1\x05\0\0\0\x24",
+        b"\x14\0\0\0\x23\x0b\0\x48\0\0\0\0\0\x01\0\0\0\x02\x29\0\x07\x13\xb1\x05\0\0\0\x1a\x13\xb1\x05\0\0\0\x23",
         0,
     );
     case(
         b"path",
-        b"\x14\0\0\0\x28\0\x0b\0\x48\0\0\0\0\0\x01\0\0\0\x02\x23\0\x05/etc\0\x27\0\0\0\0\0\x13\xb1\x05\0\0\0\x28",
+        b"\x14\0\0\0\x27\x0b\0\x48\0\0\0\0\0\x01\0\0\0\x02\x23\0\x05/etc\0\x27\0\0\0\0\0\x13\xb1\x05\0\0\0\x27",
         0,
     );
     case(
         b"zero inside",
-        b"\x14\0\0\0\x28\0\x0b\0\x48\0\0\0\0\0\x01\0\0\0\x02\x23\0\x05/e\0c\0\x27\0\0\0\0\0\x13\xb1\x05\0\0\0\x28",
+        b"\x14\0\0\0\x27\x0b\0\x48\0\0\0\0\0\x01\0\0\0\x02\x23\0\x05/e\0c\0\x27\0\0\0\0\0\x13\xb1\x05\0\0\0\x27",
         0,
     );
     case(
         b"no zero",
-        b"\x14\0\0\0\x28\0\x0b\0\x48\0\0\0\0\0\x01\0\0\0\x02\x23\0\x05/etc/\x27\0\0\0\0\0\x13\xb1\x05\0\0\0\x28",
+        b"\x14\0\0\0\x27\x0b\0\x48\0\0\0\0\0\x01\0\0\0\x02\x23\0\x05/etc/\x27\0\0\0\0\0\x13\xb1\x05\0\0\0\x27",
         0,
     );
     case(
         b"no byte",
-        b"\x14\0\0\0\x1d\0\x0b\0\x48\0\0\0\0\0\x01\0\0\0\x02\x23\0\0\x13\xb1\x05\0\0\0\x1d",
+        b"\x14\0\0\0\x1c\x0b\0\x48\0\0\0\0\0\x01\0\0\0\x02\x23\0\0\x13\xb1\x05\0\0\0\x1c",
         0,
     );
     let last =
-        b"\x11\0\0\0\x05\0\0\0\x07\0\x02\x61\0\x14\0\0\0\x1a\0\x0b\0\x48\0\0\0\0\0\x01\0\0\0\x02\x13\xb1\x05\0\0\0\x1a";
+        b"\x11\0\0\0\x05\0\0\0\x07\0\x02\x61\0\x14\0\0\0\x19\x0b\0\x48\0\0\0\0\0\x01\0\0\0\x02\x13\xb1\x05\0\0\0\x19";
     case(b"17", last, 0);
     case(b"17", last, 13);
     whole(b"17", last);

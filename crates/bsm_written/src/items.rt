@@ -48,11 +48,11 @@ pub(crate) fn print_item(i: usize, bytes: &[u8]) {
         }
         1 | 2 => {
             say(b"record32\n  wrote");
-            record(b"\x01\x04\x02\x02\x02\x04\x04", bytes);
+            record(b"\x01\x04\x01\x02\x02\x04\x04", bytes);
         }
         _ => {
             say(b"record64\n  wrote");
-            record(b"\x01\x04\x02\x02\x02\x08\x08", bytes);
+            record(b"\x01\x04\x01\x02\x02\x08\x08", bytes);
         }
     }
 }
