@@ -181,7 +181,7 @@ fn names_too_long() {
 /// In the largest record, and behind a long trail.
 #[test]
 fn far_into_a_trail() {
-    let text = vec![b't'; 65_506 - 1];
+    let text = vec![b't'; 65_507 - 1];
     let large = record(&header(1, 5), &[Token::Text { text: &text }]);
     assert_eq!(large.len(), 65_535);
     let before = large.repeat(3);

@@ -57,13 +57,14 @@ fn same_output(program: &Path, input: &[u8]) -> Vec<u8> {
 
 /// A good trail of exactly this length.
 fn trail_of(rng: &mut Rng, length: usize) -> Vec<u8> {
+    let around = header_size(0x14) + 3 + 7;
     let mut trail = Vec::new();
     loop {
         let item = good_trail(rng, 1);
         let left = length - trail.len();
         // The last record is the smallest one around an opaque.
-        if item.len() + 29 > left {
-            let size = left - 29;
+        if item.len() + around > left {
+            let size = left - around;
             let mut body = vec![0x29];
             body.extend((size as u16).to_be_bytes());
             body.extend(rng.bytes(size));
