@@ -13,7 +13,7 @@ use bsm_reader::past::left_past;
 use bsm_reader::past::place_past;
 use bsm_reader::reader::read_at;
 use bsm_token::refusal::Refusal;
-use bsm_token::token::text_at;
+use bsm_token::text::text_at;
 use libc::STDOUT_FILENO;
 
 fn say(words: &[u8]) {

@@ -12,7 +12,7 @@ use bsm_token::body::BodyRead;
 use bsm_token::body::walk_body;
 use bsm_token::flat::FlatToken;
 use bsm_token::flat::flat_at;
-use bsm_token::token::has_string;
+use bsm_token::text::has_string;
 
 // The answer at a place of a body: `kind` is 0 at the end, 1 for a token, 3 for a refusal.
 #[no_mangle]

@@ -8,15 +8,15 @@ use bsm_item::item::ItemRead;
 use bsm_item::read::body_of;
 use bsm_item::read::item_at;
 use bsm_item::read::name_of;
+use bsm_kinds::token::Token;
+use bsm_kinds::token::TokenRead;
+use bsm_kinds::token::token_at;
 use bsm_token::kind::IpHeader;
 use bsm_token::kind::Party32;
 use bsm_token::kind::Party64;
 use bsm_token::kind::Permissions;
-use bsm_token::kind::Token;
 use bsm_token::part::part;
 use bsm_token::refusal::Refusal;
-use bsm_token::token::TokenRead;
-use bsm_token::token::token_at;
 
 pub(crate) fn refused(f: Refusal) {
     say(b"refused");
