@@ -102,7 +102,7 @@ fn bodies() -> Vec<(Vec<u8>, Option<Refusal>)> {
     ];
     let mut all = Vec::new();
     for (end, number, at) in ends {
-        for front in [filled(0), filled(65_535 - 24)] {
+        for front in [filled(0), filled(65_535)] {
             let bad = (number > 0).then(|| refused(number, front.len() + at));
             all.push(([&front[..], end].concat(), bad));
         }
