@@ -188,7 +188,11 @@ impl Tally {
     /// Prints what was wrong beside versions over 255, and asserts that each
     /// came often.
     pub fn finish_versions(&self, test: &str) {
-        println!("{test}: versions {:02X?}", self.versions);
+        let kinds = self.versions.iter();
+        let shown: Vec<String> = kinds
+            .map(|((number, beside), times)| format!("{number:02X} {beside:?} {times}"))
+            .collect();
+        println!("{test}: versions over 255 {}", shown.join(", "));
         for kind in LARGE_VERSIONS {
             let times = self.version_times(kind);
             assert!(times >= OFTEN, "{test}: {kind:02X?} {times} times");

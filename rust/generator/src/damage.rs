@@ -146,13 +146,7 @@ fn damage_record(rng: &mut Rng, trail: &mut Vec<u8>, start: usize, size: usize) 
         5 => damage_nanoseconds(rng, &mut trail[start..end]),
         6 => trail.truncate(start + rng.below(size)),
         _ if size < head + 7 => damage_bytes(rng, trail),
-        7 => {
-            // A version of two bytes.
-            let mut wide = trail[start..start + head].to_vec();
-            wide.insert(5, 0);
-            let new = framed(&wide, &trail[start + head..end - 7]);
-            trail.splice(start..end, new);
-        }
+        7 => drop(trail.splice(start..end, with_two_bytes(&trail[start..end]))),
         way => {
             // The body changes, mostly with the sizes put right again.
             let mut body = trail[start + head..end - 7].to_vec();
@@ -164,6 +158,14 @@ fn damage_record(rng: &mut Rng, trail: &mut Vec<u8>, start: usize, size: usize) 
             trail.splice(start..end, new);
         }
     }
+}
+
+/// A record again with two bytes for its version.
+fn with_two_bytes(record: &[u8]) -> Vec<u8> {
+    let (head, rest) = record.split_at(header_size(record[0]));
+    let mut head = head.to_vec();
+    head.insert(5, 0);
+    framed(&head, &rest[..rest.len() - 7])
 }
 
 /// Sets the nanoseconds of a record to a bound.

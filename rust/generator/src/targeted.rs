@@ -264,7 +264,7 @@ pub fn many_faults(rng: &mut Rng) -> Vec<u8> {
         }
         let mut record = raw_record(&header, &body);
         if rng.chance(4) {
-            let count = rng.pick(&[0, 24, 25, 32, 33, 34, 65_535, 65_536, u32::MAX]);
+            let count = rng.pick(&[0, 24, 25, 26, 32, 33, 34, 65_535, 65_536, u32::MAX]);
             set(&mut record, 1, &count.to_be_bytes());
         }
         if rng.chance(3) {

@@ -29,7 +29,7 @@ fn large_versions_with_all_else_that_is_wrong() {
         assert!(dst.iter().all(|&byte| byte == 0xA5));
         *kinds.entry(kind).or_insert(0) += 1;
     }
-    println!("{kinds:02X?}");
+    println!("{kinds:?}");
     assert_eq!(kinds.len(), LARGE_VERSIONS.len());
     for kind in LARGE_VERSIONS {
         assert!(kinds[&kind] >= 100, "{kind:02X?}: {}", kinds[&kind]);

@@ -59,6 +59,21 @@ fn cases_1_to_8_starts_of_items() {
     assert_eq!(item_at(&start(0x1_0000), 0), length);
 }
 
+/// Counts around the bounds of either header.
+#[test]
+fn counts_around_the_bounds() {
+    for (number, least) in [(0x14, 25), (0x74, 33)] {
+        for count in (0..100).chain(65_500..65_600).chain([1 << 24, u32::MAX]) {
+            let start = [&[number][..], &count.to_be_bytes()].concat();
+            let expected = match count as usize {
+                count if (least..=65_535).contains(&count) => refused(Reason::Short, 0, count),
+                _ => refused(Reason::RecordLength, 0, 0),
+            };
+            assert_eq!(item_at(&start, 0), expected, "{number:02X}, {count}");
+        }
+    }
+}
+
 #[test]
 fn case_9_record_without_body() {
     let trail = record(b"");
