@@ -170,7 +170,7 @@ fn case_10_one_token() {
 #[test]
 fn case_11_wrong_trailer() {
     let mut trail = case_nine("");
-    trail[24] = 0x1A;
+    trail[24] = 0x1B;
     assert_eq!(refused(&trail, 0), (5, 0, 0));
     trail[14..18].copy_from_slice(&1_000_000_000u32.to_be_bytes());
     assert_eq!(refused(&trail, 0), (5, 0, 0));
@@ -213,7 +213,7 @@ fn case_15_no_token_number() {
 
 #[test]
 fn case_16_trailer_inside_an_opaque() {
-    let trail = case_nine("29 0007 13 B105 00000019");
+    let trail = case_nine("29 0007 13 B105 0000001A");
     assert_eq!(trail.len(), 35);
     assert_eq!(record(&trail), (35, 72, 1));
 }

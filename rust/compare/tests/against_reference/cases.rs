@@ -103,7 +103,7 @@ fn case_10_record_with_a_return_token() {
 #[test]
 fn case_11_trailer_with_another_length() {
     let mut trail = record(b"");
-    trail[24] = 0x1A;
+    trail[24] = 0x1B;
     assert_eq!(item_at(&trail, 0), refused(Reason::Trailer, 0, 0));
     trail[14..18].copy_from_slice(&1_000_000_000u32.to_be_bytes());
     assert_eq!(item_at(&trail, 0), refused(Reason::Trailer, 0, 0));
@@ -132,7 +132,7 @@ fn cases_14_to_16_bodies() {
         item_at(&record(&[0]), 0),
         refused(Reason::NotABodyToken, 18, 0)
     );
-    let opaque = [0x29, 0, 7, 0x13, 0xB1, 0x05, 0, 0, 0, 0x19];
+    let opaque = [0x29, 0, 7, 0x13, 0xB1, 0x05, 0, 0, 0, 0x1A];
     let trail = record(&opaque);
     assert_eq!(trail.len(), 35);
     assert_eq!(item_at(&trail, 0), accepted(&opaque, 1));
