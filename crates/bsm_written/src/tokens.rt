@@ -2,6 +2,7 @@
 use crate::print::grouped;
 use crate::print::say;
 use bsm_bytes::answer::WriteAnswer;
+use bsm_token::kind;
 use bsm_token::kind::IpHeader;
 use bsm_token::kind::Party32;
 use bsm_token::kind::Party64;
@@ -85,79 +86,80 @@ fn permissions() -> Permissions {
 // Writes a token with this number.
 pub(crate) fn write_kind(number: u8, dst: &mut [u8]) -> WriteAnswer {
     match number {
-        0x23 => write_path(dst, b"/etc/passwd"),
-        0x24 => write_subject32(dst, party32()),
-        0x26 => write_process32(dst, party32()),
-        0x27 => write_return32(dst, 13, 4294967295),
-        0x28 => write_text(dst, b""),
-        0x29 => write_opaque(dst, b"\x13\xB1\x05\0\0\0\x1A"),
-        0x2A => write_in_addr(dst, 0xC0000201),
-        0x2B => write_ip(dst, ip()),
-        0x2C => write_iport(dst, 443),
-        0x2D => write_arg32(dst, 2, 511, b"mode"),
-        0x2F => write_seq(dst, 66),
-        0x32 => write_ipc_perm(dst, permissions()),
-        0x3B => write_newgroups(dst, &[0, 20, 4294967295]),
-        0x3C => write_exec_args(dst, 2, b"ls\0-l\0"),
-        0x3D => write_exec_env(dst, 0, b""),
-        0x52 => write_exit(dst, 1, 2),
-        0x71 => write_arg64(dst, 3, 18446744073709551615, b"offset"),
-        0x72 => write_return64(dst, 0, 256),
-        0x75 => write_subject64(dst, party64()),
+        kind::PATH => write_path(dst, b"/etc/passwd"),
+        kind::SUBJECT32 => write_subject32(dst, party32()),
+        kind::PROCESS32 => write_process32(dst, party32()),
+        kind::RETURN32 => write_return32(dst, 13, 4294967295),
+        kind::TEXT => write_text(dst, b""),
+        kind::OPAQUE => write_opaque(dst, b"\x13\xB1\x05\0\0\0\x1A"),
+        kind::IN_ADDR => write_in_addr(dst, 0xC0000201),
+        kind::IP => write_ip(dst, ip()),
+        kind::IPORT => write_iport(dst, 443),
+        kind::ARG32 => write_arg32(dst, 2, 511, b"mode"),
+        kind::SEQ => write_seq(dst, 66),
+        kind::IPC_PERM => write_ipc_perm(dst, permissions()),
+        kind::NEWGROUPS => write_newgroups(dst, &[0, 20, 4294967295]),
+        kind::EXEC_ARGS => write_exec_args(dst, 2, b"ls\0-l\0"),
+        kind::EXEC_ENV => write_exec_env(dst, 0, b""),
+        kind::EXIT => write_exit(dst, 1, 2),
+        kind::ARG64 => write_arg64(dst, 3, 18446744073709551615, b"offset"),
+        kind::RETURN64 => write_return64(dst, 0, 256),
+        kind::SUBJECT64 => write_subject64(dst, party64()),
         _ => write_process64(dst, party64()),
     }
 }
 
-// Prints a token's name, and its bytes parted into its fields.
-fn named<'a>(name: &'a [u8], widths: &'a [u8], bytes: &'a [u8]) {
-    say(name);
-    say(b"\n  wrote");
-    grouped(bytes, widths);
-    say(b"\n");
+// Prints the name of the token with this number.
+fn print_name(number: u8) {
+    match number {
+        kind::PATH => say(b"path"),
+        kind::SUBJECT32 => say(b"subject32"),
+        kind::PROCESS32 => say(b"process32"),
+        kind::RETURN32 => say(b"return32"),
+        kind::TEXT => say(b"text"),
+        kind::OPAQUE => say(b"opaque"),
+        kind::IN_ADDR => say(b"in_addr"),
+        kind::IP => say(b"ip"),
+        kind::IPORT => say(b"iport"),
+        kind::ARG32 => say(b"arg32"),
+        kind::SEQ => say(b"seq"),
+        kind::IPC_PERM => say(b"ipc_perm"),
+        kind::NEWGROUPS => say(b"newgroups"),
+        kind::EXEC_ARGS => say(b"exec_args"),
+        kind::EXEC_ENV => say(b"exec_env"),
+        kind::EXIT => say(b"exit"),
+        kind::ARG64 => say(b"arg64"),
+        kind::RETURN64 => say(b"return64"),
+        kind::SUBJECT64 => say(b"subject64"),
+        _ => say(b"process64"),
+    }
+}
+
+// Prints the bytes of the token with this number, parted into its fields.
+fn print_bytes(number: u8, bytes: &[u8]) {
+    match number {
+        kind::PATH | kind::TEXT | kind::OPAQUE | kind::IPORT => grouped(bytes, b"\x01\x02"),
+        kind::SUBJECT32 | kind::PROCESS32 => grouped(
+            bytes,
+            b"\x01\x04\x04\x04\x04\x04\x04\x04\x04\x04",
+        ),
+        kind::RETURN32 => grouped(bytes, b"\x01\x01\x04"),
+        kind::IN_ADDR | kind::SEQ | kind::EXEC_ARGS | kind::EXEC_ENV => grouped(bytes, b"\x01\x04"),
+        kind::IP => grouped(bytes, b"\x01\x01\x01\x02\x02\x02\x01\x01\x02\x04\x04"),
+        kind::ARG32 => grouped(bytes, b"\x01\x01\x04\x02"),
+        kind::IPC_PERM => grouped(bytes, b"\x01\x04\x04\x04\x04\x04\x04\x04"),
+        kind::NEWGROUPS => grouped(bytes, b"\x01\x02\x04\x04\x04"),
+        kind::EXIT => grouped(bytes, b"\x01\x04\x04"),
+        kind::ARG64 => grouped(bytes, b"\x01\x01\x08\x02"),
+        kind::RETURN64 => grouped(bytes, b"\x01\x01\x08"),
+        _ => grouped(bytes, b"\x01\x04\x04\x04\x04\x04\x04\x04\x08\x04"),
+    }
 }
 
 // Prints the name and the bytes of the token with this number.
 pub(crate) fn print_kind(number: u8, bytes: &[u8]) {
-    match number {
-        0x23 => named(b"path", b"\x01\x02", bytes),
-        0x24 => named(
-            b"subject32",
-            b"\x01\x04\x04\x04\x04\x04\x04\x04\x04\x04",
-            bytes,
-        ),
-        0x26 => named(
-            b"process32",
-            b"\x01\x04\x04\x04\x04\x04\x04\x04\x04\x04",
-            bytes,
-        ),
-        0x27 => named(b"return32", b"\x01\x01\x04", bytes),
-        0x28 => named(b"text", b"\x01\x02", bytes),
-        0x29 => named(b"opaque", b"\x01\x02", bytes),
-        0x2A => named(b"in_addr", b"\x01\x04", bytes),
-        0x2B => named(
-            b"ip",
-            b"\x01\x01\x01\x02\x02\x02\x01\x01\x02\x04\x04",
-            bytes,
-        ),
-        0x2C => named(b"iport", b"\x01\x02", bytes),
-        0x2D => named(b"arg32", b"\x01\x01\x04\x02", bytes),
-        0x2F => named(b"seq", b"\x01\x04", bytes),
-        0x32 => named(b"ipc_perm", b"\x01\x04\x04\x04\x04\x04\x04\x04", bytes),
-        0x3B => named(b"newgroups", b"\x01\x02\x04\x04\x04", bytes),
-        0x3C => named(b"exec_args", b"\x01\x04", bytes),
-        0x3D => named(b"exec_env", b"\x01\x04", bytes),
-        0x52 => named(b"exit", b"\x01\x04\x04", bytes),
-        0x71 => named(b"arg64", b"\x01\x01\x08\x02", bytes),
-        0x72 => named(b"return64", b"\x01\x01\x08", bytes),
-        0x75 => named(
-            b"subject64",
-            b"\x01\x04\x04\x04\x04\x04\x04\x04\x08\x04",
-            bytes,
-        ),
-        _ => named(
-            b"process64",
-            b"\x01\x04\x04\x04\x04\x04\x04\x04\x08\x04",
-            bytes,
-        ),
-    }
+    print_name(number);
+    say(b"\n  wrote");
+    print_bytes(number, bytes);
+    say(b"\n");
 }
