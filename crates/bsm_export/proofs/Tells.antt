@@ -15,11 +15,14 @@ use Rattle.bsm_token.specs.declared.refusal.Refusal.{Refusal}
 use Rattle.bsm_token.proofs.Faults.{body-fault}
 use Rattle.bsm_token.proofs.Answers.{widths-few, behind-few}
 use Rattle.bsm_token.proofs.Reader.{token-at, token-numbers}
-use Rattle.bsm_item.specs.Item.{fileItem, recordItem, Answer, item, end, short, refusal, itemAt}
-use Rattle.bsm_item.specs.Meaning.{located}
+use Rattle.bsm_item.specs.Item.{Item, fileItem, recordItem, Answer, item, end, short, refusal, itemAt}
+use Rattle.bsm_item.specs.Meaning.{partFor, located}
 use Rattle.bsm_item.specs.Reading.{State, Reading, answerAt, with, plain, stopOf}
 use Rattle.bsm_item.proofs.Longer.{refusal-numbers}
 use Rattle.bsm_item.proofs.Runs.{Stops, Reads, stops, goes, plain-reads}
+use Rattle.bsm_back.specs.Back.{Back, found, boundary, refused, recordBefore}
+use Rattle.bsm_back.specs.Meaning.{locatedBack}
+use Rattle.bsm_back.proofs.Depends.{only-beyond}
 use Rattle.bsm_bytes.specs.Write.{Draft, code, Reply, wrote, denied, answerIn, Written}
 use Rattle.bsm_write.specs.Given.{tokenDraft}
 use Rattle.bsm_write.specs.Items.{fileDraft, recordDraft}
@@ -29,6 +32,7 @@ use Rattle.bsm_write.proofs.Refusals.{token-refusals, file-refusals, record-ref
 use Rattle.bsm_listing.specs.Line.{itemLine}
 use Rattle.bsm_listing.specs.Listing.{Cursor, first, atState, done}
 use Rattle.bsm_export.specs.Items.{flatFound, flatAnswer, flatItem, stateAt, stoppedBy, flatOutcome}
+use Rattle.bsm_export.specs.Back.{steppedBack, flatBack}
 use Rattle.bsm_export.specs.Written.{flatWritten, flatWalk}
 use Rattle.bsm_export.specs.Lines.{lineAnswer, ItemLined, cursorFrom, flatListing}
 use Rattle.bsm_export.specs.Told.{Tells, NumbersTell}
@@ -49,6 +53,19 @@ items-tell s p = go (itemAt s p) refl
     go end e z k = omega arith
     go (short q n) e z k = omega arith
     go (refusal j q n) e z k = item-number s p j q n e z
+
+backs-tell : (s : List ℕ) (p : ℕ) → (flatBack p (locatedBack (recordBefore s p))) .item .number ≡ 0 → (flatBack p (locatedBack (recordBefore s p))) .item .kind ≢ 3
+unfolding steppedBack locatedBack flatFound
+backs-tell s p = go (recordBefore s p) refl
+  where
+    go : (a : Back) → recordBefore s p ≡ a → (flatBack p (locatedBack a)) .item .number ≡ 0 → (flatBack p (locatedBack a)) .item .kind ≢ 3
+    go (found i) e z k = of (i .what) z k
+      where
+        of : (j : Item) → (flatFound j (partFor (i .place) (item (i .what)))) .number ≡ 0 → (flatFound j (partFor (i .place) (item (i .what)))) .kind ≢ 3
+        of (fileItem n vs name) z k = omega arith
+        of (recordItem n h b c) z k = omega arith
+    go (boundary n) e z k = omega arith
+    go (refused j q n) e z k = omega (arith, only-beyond s p j q n .0 e .1)
 
 tokens-tell : (s : List ℕ) (p : ℕ) → (flatToken (tokenAt s p)) .number ≡ 0 → (flatToken (tokenAt s p)) .kind ≢ 3
 unfolding flatToken
@@ -171,6 +188,7 @@ numbers-tell =
       bodyFields = fields-whole;
       bodies = bodies-tell;
       runs = runs-tell;
+      stepsBack = backs-tell;
       ofTokens = λ number values g. tells (tokenDraft number values g) (λ d d′ f w. among-above (11 ∷ 8 ∷ 10 ∷ []) (f .number) (omega arith, (omega arith, (omega arith, tt))) (token-refusals number values g d d′ f w .number));
       ofFiles = λ values name. tells (fileDraft values name) (λ d d′ f w. among-above (9 ∷ 8 ∷ 10 ∷ []) (f .number) (omega arith, (omega arith, (omega arith, tt))) (file-refusals values name d d′ f w .number));
       ofRecords = λ h body.

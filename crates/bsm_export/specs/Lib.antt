@@ -1,4 +1,5 @@
 pub mod Items
+pub mod Back
 pub mod Written
 pub mod Lines
 pub mod Told

@@ -60,8 +60,8 @@ fn found(kind: u64, size: usize, h: Header, tokens: usize, start: usize, length:
     }
 }
 
-// No item: the end, or a refusal.
-fn no_item(kind: u64, f: Refusal) -> BsmItem
+// No item: the end, a refusal, or a boundary.
+pub(crate) fn no_item(kind: u64, f: Refusal) -> BsmItem
     ensures { λ r. ⌜ r ≡ noItem kind (f .number) (f .place) (f .need) ⌝ }
 {
     BsmItem {
