@@ -66,11 +66,11 @@ enum {
 
 /* ---- reading items */
 
-enum { BSM_END = 0, BSM_FILE = 1, BSM_RECORD = 2, BSM_REFUSED = 3 };
+enum { BSM_END = 0, BSM_FILE = 1, BSM_RECORD = 2, BSM_REFUSED = 3, BSM_BOUNDARY = 4 };
 
 /* The answer at a place of a trail. Fields that the kind does not have are 0. */
 typedef struct {
-    uint64_t kind;      /* BSM_END, BSM_FILE, BSM_RECORD or BSM_REFUSED */
+    uint64_t kind;      /* BSM_END, BSM_FILE, BSM_RECORD or BSM_REFUSED; BSM_BOUNDARY only from bsm_record_before */
     uint64_t size;      /* bytes of the item */
     uint64_t header;    /* record: BSM_ID_HEADER32 or BSM_ID_HEADER64 */
     uint64_t version;   /* record: at most 255 */
@@ -121,6 +121,22 @@ typedef struct {
 } bsm_outcome;
 
 bsm_outcome bsm_run(const uint8_t *trail, size_t length, size_t place, size_t records, size_t files);
+
+/* ---- reading records from the end of a trail */
+
+/* The record that ends at a place. `item` is it, as bsm_item_at answers at its start (BSM_RECORD); or BSM_BOUNDARY where no record
+   ends at the place; or BSM_REFUSED with 2 where the place lies beyond the trail. `place` is where the step led: the record's start,
+   from where the next step goes back, otherwise the place asked. Bytes behind the place do not count.
+   The `need` of a boundary (in `item`) is 0 where nothing in front of the trail could change the answer. Otherwise, should the
+   trail be the end of a longer one, it is how many bytes must stand before the place for another answer, 65535 at most.
+   From the end of a trail that bsm_run reads to its end, the steps go through the records behind its last file token, newest first,
+   to the end of that token, where the need is 0, or to place 0. */
+typedef struct {
+    bsm_item item;
+    uint64_t place;
+} bsm_before;
+
+bsm_before bsm_record_before(const uint8_t *trail, size_t length, size_t place);
 
 /* ---- reading body tokens; places are counted from the body's start */
 

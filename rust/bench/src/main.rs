@@ -6,6 +6,7 @@
 #![forbid(unsafe_code)]
 
 mod list;
+mod newest;
 mod read;
 mod table;
 mod timing;
@@ -23,6 +24,9 @@ const ROUNDS: usize = 25;
 
 /// Bytes of each trail, about.
 const BYTES: usize = 4 << 20;
+
+/// Bytes of a trail of which only the end is read.
+const MANY_BYTES: usize = 64 << 20;
 
 /// What the table shows.
 const ABOUT: &str = "\
@@ -53,6 +57,7 @@ fn main() -> ExitCode {
     let usual = generator::usual_records(BYTES);
     let exec = generator::large_exec(BYTES);
     let opaque = generator::large_opaque(BYTES);
+    let long = generator::usual_records(MANY_BYTES);
     let loads = vec![
         read::run("run, small records", &small),
         read::run("run, usual records", &usual),
@@ -60,6 +65,10 @@ fn main() -> ExitCode {
         read::run("run, large opaque", &opaque),
         read::items("items, small records", &small),
         read::items("items, usual records", &usual),
+        newest::load("newest, small records", &small, usize::MAX),
+        newest::load("newest, usual records", &usual, usize::MAX),
+        newest::load("newest 100 of 4 MB", &usual, 100),
+        newest::load("newest 100 of 64 MB", &long, 100),
         tokens::load("tokens, usual records", &usual),
         tokens::load("tokens, large exec_env", &exec),
         write::load("write, usual records", &usual),

@@ -68,6 +68,11 @@
 //! # Ok::<(), bsm::Refusal>(())
 //! ```
 //!
+//! # The newest records first
+//!
+//! [`Newest`] walks from the trail's end back to its last file token, at the
+//! cost of the records it hands out, however long the trail is.
+//!
 //! # Writing
 //!
 //! ```
@@ -105,6 +110,7 @@
 #[cfg(not(target_pointer_width = "64"))]
 compile_error!("the archive of the proved library is for 64-bit machines");
 
+mod back;
 mod item;
 mod listing;
 mod parts;
@@ -118,6 +124,7 @@ mod token_read;
 mod unfit;
 mod write;
 
+pub use back::{record_before, Before, Newest};
 pub use item::{body_at, item_at, name_at, Header, HeaderKind, Item};
 pub use listing::{first_line, item_line, last_line, list, Cursor, Listed, LINE_MAX};
 pub use parts::{Groups, Strings};

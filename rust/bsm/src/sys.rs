@@ -8,6 +8,7 @@ pub const BSM_END: u64 = 0;
 pub const BSM_FILE: u64 = 1;
 pub const BSM_RECORD: u64 = 2;
 pub const BSM_REFUSED: u64 = 3;
+pub const BSM_BOUNDARY: u64 = 4;
 
 pub const BSM_NO_TOKEN: u64 = 0;
 pub const BSM_TOKEN: u64 = 1;
@@ -67,6 +68,13 @@ pub struct bsm_outcome {
 
 #[repr(C)]
 #[derive(Clone, Copy, Debug, Default, PartialEq, Eq)]
+pub struct bsm_before {
+    pub item: bsm_item,
+    pub place: u64,
+}
+
+#[repr(C)]
+#[derive(Clone, Copy, Debug, Default, PartialEq, Eq)]
 pub struct bsm_token {
     pub kind: u64,
     pub token: u64,
@@ -117,6 +125,8 @@ extern "C" {
         records: usize,
         files: usize,
     ) -> bsm_outcome;
+
+    pub fn bsm_record_before(trail: *const u8, length: usize, place: usize) -> bsm_before;
 
     pub fn bsm_token_at(body: *const u8, length: usize, place: usize) -> bsm_token;
     pub fn bsm_text_at(body: *const u8, length: usize, place: usize) -> bsm_part;

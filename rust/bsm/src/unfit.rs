@@ -13,6 +13,7 @@ pub(crate) fn unfit(what: &str, number: u64) -> ! {
 mod tests {
     extern crate std;
 
+    use crate::back::{before, Before};
     use crate::item::{found, part, told_part, HeaderKind, Item};
     use crate::listing::{cursor_of, Cursor};
     use crate::refusal::{written, Reason, Refusal};
@@ -97,6 +98,29 @@ mod tests {
             stops("item kind", kind, || found(&[0; 60], &told(kind, 3)));
         }
         stops("refusal", 0, || found(&[], &told(sys::BSM_REFUSED, 0)));
+    }
+
+    #[test]
+    fn steps_back() {
+        let told = |kind, number| sys::bsm_before {
+            item: sys::bsm_item {
+                kind,
+                header: 0x14,
+                number,
+                need: 7,
+                ..Default::default()
+            },
+            place: 3,
+        };
+        let boundary = before(&[], &told(sys::BSM_BOUNDARY, 0));
+        assert_eq!(boundary, Ok(Before::Boundary { need: 7 }));
+        let record = before(&[], &told(sys::BSM_RECORD, 0));
+        assert!(matches!(record, Ok(Before::Record { place: 3, .. })));
+        let refused = before(&[], &told(sys::BSM_REFUSED, 2)).unwrap_err();
+        assert_eq!(refused.reason, Reason::Place);
+        for kind in [sys::BSM_END, sys::BSM_FILE, 5].into_iter().chain(NEVER) {
+            stops("item kind", kind, || before(&[0; 60], &told(kind, 0)));
+        }
     }
 
     #[test]

@@ -1,5 +1,5 @@
 //! A second reader and writer of BSM audit trails, written from paper 01 and
-//! the landed requests of paper 02 (P1, P2) alone. It is there to be compared
+//! the landed requests of paper 02 (P1 to P3) alone. It is there to be compared
 //! with another implementation, and to be its baseline for speed.
 //!
 //! Reading allocates nothing and hands back parts of the lent buffer. Every
@@ -8,6 +8,7 @@
 #![forbid(unsafe_code)]
 #![warn(missing_docs)]
 
+mod back;
 mod fields;
 mod item;
 mod item_write;
@@ -20,6 +21,7 @@ mod token;
 mod token_read;
 mod token_write;
 
+pub use back::{newest, record_before, Before};
 pub use item::{item_at, Answer, Header, Item};
 pub use item_write::{write_file, write_record};
 pub use listing::{first_line, item_line, last_line, listing, program_output};
