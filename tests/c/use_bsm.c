@@ -1,4 +1,4 @@
-/* Uses the library from C: writes every kind of token, a file token and two records, reads them back, lists them, and tries
+/* Uses the library from C: writes every kind of token, a file token and two records, reads them from both ends, lists them, and tries
    texts that are spoilt, versions of all sizes, destinations that are too small and buffers that are not there. What it expects is
    computed from what it wrote. Exit status 0 where every assertion holds. */
 #undef NDEBUG
@@ -180,6 +180,41 @@ static void read_trail(void)
 
     bsm_outcome high = bsm_run(trail, trail_size, 1, 1, 1);
     assert(high.place == 1 && high.records == 1 && high.files == 1 && high.number == 2 && high.at == 1 && high.need == 0);
+}
+
+/* b led to this place, and is what reading forward from there answers. */
+static int record_at(bsm_before b, const uint8_t *t, size_t n, size_t place)
+{
+    bsm_item r = bsm_item_at(t, n, place);
+    return r.kind == BSM_RECORD && b.place == place && memcmp(&b.item, &r, sizeof r) == 0;
+}
+
+static int boundary(bsm_before b, size_t place, uint64_t need)
+{
+    const bsm_item none = {.kind = BSM_BOUNDARY, .need = need};
+    return b.place == place && memcmp(&b.item, &none, sizeof none) == 0;
+}
+
+/* From the end, newest first: both records, then the file token's end. No other place is a record's end. */
+static void read_back(void)
+{
+    bsm_before b = bsm_record_before(trail, trail_size, trail_size);
+    assert(record_at(b, trail, trail_size, second_place) && b.item.event == 73);
+    b = bsm_record_before(trail, trail_size, b.place);
+    assert(record_at(b, trail, trail_size, record_place) && b.item.event == 72 && b.item.tokens == tokens);
+    assert(boundary(bsm_record_before(trail, trail_size, b.place), record_place, 0));
+    for (size_t place = 0; place < trail_size; place++)
+        if (place != second_place)
+            assert(boundary(bsm_record_before(trail, trail_size, place), place, place < 7 ? 7 : 0));
+    bsm_before beyond = bsm_record_before(trail, trail_size, SIZE_MAX);
+    assert(beyond.item.kind == BSM_REFUSED && beyond.item.number == 2 && beyond.item.place == SIZE_MAX && beyond.place == SIZE_MAX);
+
+    /* Only the end of the trail: what is missing in front is told, and bytes behind the place do not count. */
+    const uint8_t *t = trail + record_place;
+    const size_t n = trail_size - record_place, middle = second_place - record_place;
+    assert(record_at(bsm_record_before(t, n, middle), t, n, 0) && boundary(bsm_record_before(t, n, 0), 0, 7));
+    for (size_t gone = 1; gone < middle - TRAILER; gone++)
+        assert(boundary(bsm_record_before(t + gone, n - gone, middle - gone), middle - gone, middle));
 }
 
 /* The listing as one text, line by line, and in parts of any room that holds the longest line. */
@@ -418,6 +453,7 @@ static void name_refusals(void)
 static void read_nothing(void)
 {
     assert(bsm_item_at(NOTHING, 0).kind == BSM_END);
+    assert(boundary(bsm_record_before(NOTHING, 0), 0, 7) && bsm_record_before(NOTHING, 1).item.number == 2);
     bsm_item beyond = bsm_item_at(NOTHING, 1);
     assert(beyond.kind == BSM_REFUSED && beyond.number == 2 && beyond.place == 1 && beyond.need == 0);
     bsm_step s = bsm_next(NOTHING, 0, 0, 0), high = bsm_next(NOTHING, 0, 1, 0);
@@ -520,6 +556,7 @@ int main(void)
     write_trail();
     read_items();
     read_trail();
+    read_back();
     list_trail();
     list_no_line();
     line_of_no_item();

@@ -8,6 +8,7 @@
 
 #![warn(missing_docs)]
 
+mod back;
 mod expect;
 mod growing;
 mod lines;
@@ -18,6 +19,7 @@ mod tally;
 mod tokens;
 mod writing;
 
+pub use back::{same_around, same_before, same_newest};
 pub use expect::{
     header, item, new_token, part_of_item, part_of_token, refusal, run, state, token,
 };

@@ -31,6 +31,12 @@ pub const WAITS: usize = 40_000;
 pub const TWO_BYTES: usize = 200_000;
 /// Such records cut at every byte.
 pub const CUT_TWO_BYTES: usize = 60_000;
+/// Steps back from each place of small trails.
+pub const STEPS_BACK: usize = 500_000;
+/// Steps back aimed at each answer, and with other bytes around.
+pub const AIMED_BACK: usize = 60_000;
+/// Walks from the end of good trails.
+pub const WALKS: usize = 20_000;
 /// Lines of a listing.
 pub const LINES: usize = 100_000;
 /// Parts of a listing.
@@ -56,6 +62,9 @@ pub const TOTAL: usize = MIXED
     + WAITS
     + TWO_BYTES
     + CUT_TWO_BYTES
+    + STEPS_BACK
+    + AIMED_BACK
+    + WALKS
     + LINES
     + PARTS
     + FACE

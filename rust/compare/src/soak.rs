@@ -1,5 +1,6 @@
 //! Comparing with ever new seeds.
 
+use crate::back::{same_around, same_before, same_newest};
 use crate::expect::{self, REASONS};
 use crate::growing::Growing;
 use crate::lines::{same_lines, same_parts};
@@ -24,8 +25,14 @@ pub fn compare_seed(tally: &mut Tally, seed: u64) {
         let (trail, state) = any_input(&mut rng);
         same_trail(tally, &mut rng, &trail, state);
         same_listing(tally, &mut rng, &trail, state);
+        same_back(tally, &mut rng, &trail);
         let body = any_body(&mut rng);
         same_tokens(tally, &mut rng, &body);
+    }
+    for aim in ENDINGS {
+        let (trail, place) = ended(&mut rng, aim);
+        same_before(tally, &trail, place);
+        same_around(tally, &mut rng, &trail, place);
     }
     for call in write_calls(&mut rng) {
         let need = call.args.size();
@@ -59,6 +66,15 @@ fn same_trail(tally: &mut Tally, rng: &mut Rng, trail: &[u8], state: State) {
         growing.grown(tally, &trail[..cut]);
     }
     growing.finish();
+}
+
+/// Compares the walk from a trail's end, and steps back from some places.
+fn same_back(tally: &mut Tally, rng: &mut Rng, trail: &[u8]) {
+    same_newest(trail);
+    for place in [trail.len(), wild_place(rng, trail.len())] {
+        same_before(tally, trail, place);
+        same_around(tally, rng, trail, place);
+    }
 }
 
 /// Compares lines and parts of a listing.
@@ -180,6 +196,21 @@ fn words_for(spoilt: Spoilt) -> &'static str {
     }
 }
 
+/// What stands before a place, in a few words.
+fn words_before(ending: Ending) -> &'static str {
+    match ending {
+        Ending::Beyond => "nothing, it lies beyond the trail",
+        Ending::Few => "fewer than seven bytes",
+        Ending::NoTrailer => "no trailer",
+        Ending::LargeCount => "a count over 65,535",
+        Ending::FarCount => "a count beyond the place",
+        Ending::NoItem => "a trailer, and no item where its count says",
+        Ending::FileToken => "a trailer, and a file token where its count says",
+        Ending::OtherSize => "a trailer, and a record of another size",
+        Ending::Record => "a record",
+    }
+}
+
 /// What is wrong beside a version, in a few words.
 fn words_beside(beside: Beside) -> String {
     match beside {
@@ -216,6 +247,11 @@ impl Display for Soaked {
             let (times, name) = (tally.version_times(kind), name_of(kind.0));
             let words = words_beside(kind.1);
             writeln!(f, "{times:>12}  {:02X} {name}: {words}", kind.0)?;
+        }
+        writeln!(f, "steps back, by what stands before the place")?;
+        for ending in ENDINGS {
+            let times = tally.ending_times(ending);
+            writeln!(f, "{times:>12}  {}", words_before(ending))?;
         }
         writeln!(f, "items accepted")?;
         for (number, name) in ITEMS {

@@ -1,7 +1,7 @@
 //! Counting what was compared.
 
 use generator::{large_version, spoilt_body, spoilt_call, spoilt_item, spoilt_token};
-use generator::{Beside, Spoilt, WriteArgs, LARGE_VERSIONS, TOKEN_NUMBERS};
+use generator::{Beside, Ending, Spoilt, WriteArgs, ENDINGS, LARGE_VERSIONS, TOKEN_NUMBERS};
 use reference::Refusal;
 use std::collections::BTreeMap;
 
@@ -17,6 +17,7 @@ pub struct Tally {
     kinds: [usize; 256],
     texts: BTreeMap<(u8, Spoilt), usize>,
     versions: BTreeMap<(u8, Beside), usize>,
+    endings: BTreeMap<Ending, usize>,
 }
 
 impl Default for Tally {
@@ -35,6 +36,7 @@ impl Tally {
             kinds: [0; 256],
             texts: BTreeMap::new(),
             versions: BTreeMap::new(),
+            endings: BTreeMap::new(),
         }
     }
 
@@ -94,6 +96,11 @@ impl Tally {
         }
     }
 
+    /// One step back that met this.
+    pub fn ending(&mut self, ending: Ending) {
+        *self.endings.entry(ending).or_insert(0) += 1;
+    }
+
     /// One token or item of this kind, read or written; a record counts for
     /// its header.
     pub fn kind(&mut self, number: u8) {
@@ -115,6 +122,9 @@ impl Tally {
         }
         for (kind, more) in &other.versions {
             *self.versions.entry(*kind).or_insert(0) += more;
+        }
+        for (kind, more) in &other.endings {
+            *self.endings.entry(*kind).or_insert(0) += more;
         }
     }
 
@@ -138,6 +148,11 @@ impl Tally {
     /// over 255 and this beside it.
     pub fn version_times(&self, kind: (u8, Beside)) -> usize {
         self.versions.get(&kind).copied().unwrap_or(0)
+    }
+
+    /// How often a step back met this.
+    pub fn ending_times(&self, ending: Ending) -> usize {
+        self.endings.get(&ending).copied().unwrap_or(0)
     }
 
     /// Prints the counters and asserts the share of inputs, and that each of
@@ -196,6 +211,15 @@ impl Tally {
         for kind in LARGE_VERSIONS {
             let times = self.version_times(kind);
             assert!(times >= OFTEN, "{test}: {kind:02X?} {times} times");
+        }
+    }
+
+    /// Prints what steps back met, and asserts that each came often.
+    pub fn finish_endings(&self, test: &str) {
+        println!("{test}: before places {:?}", self.endings);
+        for kind in ENDINGS {
+            let times = self.ending_times(kind);
+            assert!(times >= OFTEN, "{test}: {kind:?} {times} times");
         }
     }
 

@@ -4,7 +4,7 @@ use bsm::sys::*;
 use bsm::Reason;
 use compare::*;
 use generator::*;
-use reference::{Answer, Item, Party, Refusal, State, Token, TokenAnswer};
+use reference::{Answer, Before, Item, Party, Refusal, State, Token, TokenAnswer};
 
 /// Where a part stands in its trail.
 fn start_in(trail: &[u8], part: &[u8]) -> u64 {
@@ -81,6 +81,26 @@ fn raw_step(trail: &[u8], state: State) -> bsm_step {
         place: (state.place + size) as u64,
         records: (state.records + record) as u64,
         files: (state.files + file) as u64,
+    }
+}
+
+/// One step back.
+fn raw_before(trail: &[u8], place: usize) -> bsm_before {
+    let (item, place) = match reference::record_before(trail, place) {
+        Before::Record { place, item } => (raw_item(trail, Answer::Item(item)), place),
+        Before::Boundary { need } => {
+            let boundary = bsm_item {
+                kind: BSM_BOUNDARY,
+                need: need as u64,
+                ..bsm_item::default()
+            };
+            (boundary, place)
+        }
+        Before::Refused(refusal) => (raw_item(trail, Answer::Refused(refusal)), place),
+    };
+    bsm_before {
+        item,
+        place: place as u64,
     }
 }
 
@@ -264,6 +284,29 @@ fn items_field_by_field() {
     }
     tally.finish("items field by field", FACE / 2, 1..=9);
     tally.finish_texts("items field by field", &SPOILT_ITEMS);
+}
+
+#[test]
+fn steps_back_field_by_field() {
+    let mut rng = Rng::new(804);
+    let mut tally = Tally::new();
+    for _ in 0..1_000 {
+        for aim in ENDINGS {
+            let (trail, place) = ended(&mut rng, aim);
+            for place in [place, wild_place(&mut rng, trail.len())] {
+                tally.ending(ending(&trail, place));
+                // SAFETY: the pointer and the length are those of `trail`.
+                let found = unsafe { bsm_record_before(trail.as_ptr(), trail.len(), place) };
+                assert_eq!(
+                    found,
+                    raw_before(&trail, place),
+                    "{place} of {}",
+                    show(&trail)
+                );
+            }
+        }
+    }
+    tally.finish_endings("steps back field by field");
 }
 
 #[test]

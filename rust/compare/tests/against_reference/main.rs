@@ -8,6 +8,7 @@ mod face;
 mod failing;
 mod growing;
 mod listing;
+mod newest;
 mod placed;
 mod places;
 mod program;

@@ -1,7 +1,7 @@
 //! What `./soak` does with its seeds, on a few of them.
 
 use compare::soak::{compare_seed, soak};
-use generator::{LARGE_VERSIONS, SPOILT_CALLS, SPOILT_ITEMS, TOKEN_NUMBERS};
+use generator::{ENDINGS, LARGE_VERSIONS, SPOILT_CALLS, SPOILT_ITEMS, TOKEN_NUMBERS};
 use std::sync::atomic::{AtomicUsize, Ordering};
 
 #[test]
@@ -28,6 +28,11 @@ fn a_few_seeds_meet_every_answer_and_kind() {
         assert!(times > 100, "{kind:02X?} {times}");
         let line = format!("\n{times:>12}  {:02X} ", kind.0);
         assert!(shown.contains(&line), "{line}");
+    }
+    for kind in ENDINGS {
+        let times = soaked.tally.ending_times(kind);
+        assert!(times > 100, "{kind:?} {times}");
+        assert!(shown.contains(&format!("\n{times:>12}  ")), "{kind:?}");
     }
 
     // The same seeds give the same inputs.
