@@ -1,6 +1,6 @@
 //! Reading a trail from its end.
 
-use crate::item::{found, Item};
+use crate::item::{record, Item};
 use crate::refusal::Refusal;
 use crate::sys;
 use crate::unfit::unfit;
@@ -56,17 +56,16 @@ pub fn record_before(trail: &[u8], place: usize) -> Result<Before<'_>, Refusal> 
 /// The answer with the part of the trail that it names.
 #[inline]
 pub(crate) fn before<'a>(trail: &'a [u8], told: &sys::bsm_before) -> Result<Before<'a>, Refusal> {
-    match told.item.kind {
-        sys::BSM_BOUNDARY => Ok(Before::Boundary {
-            need: told.item.need as usize,
+    let sys::bsm_before { item, place } = told;
+    match item.kind {
+        sys::BSM_RECORD => Ok(Before::Record {
+            place: *place as usize,
+            item: record(trail, item),
         }),
-        sys::BSM_RECORD | sys::BSM_REFUSED => match found(trail, &told.item)? {
-            Some(item) => Ok(Before::Record {
-                place: told.place as usize,
-                item,
-            }),
-            None => unfit("item kind", told.item.kind),
-        },
+        sys::BSM_BOUNDARY => Ok(Before::Boundary {
+            need: item.need as usize,
+        }),
+        sys::BSM_REFUSED => Err(Refusal::of(item.number, item.place, item.need)),
         kind => unfit("item kind", kind),
     }
 }

@@ -170,21 +170,27 @@ pub(crate) fn found<'a>(
             microseconds: answer.fraction as u32,
             name: held(trail, answer),
         })),
-        sys::BSM_RECORD => Ok(Some(Item::Record {
-            size: answer.size as usize,
-            header: Header {
-                kind: HeaderKind::of(answer.header),
-                version: answer.version as u16,
-                event: answer.event as u16,
-                modifier: answer.modifier as u16,
-                seconds: answer.seconds,
-                nanoseconds: answer.fraction,
-            },
-            body: held(trail, answer),
-            tokens: answer.tokens as usize,
-        })),
+        sys::BSM_RECORD => Ok(Some(record(trail, answer))),
         sys::BSM_REFUSED => Err(Refusal::of(answer.number, answer.place, answer.need)),
         _ => unfit("item kind", answer.kind),
+    }
+}
+
+/// The record that an answer tells.
+#[inline]
+pub(crate) fn record<'a>(trail: &'a [u8], answer: &sys::bsm_item) -> Item<'a> {
+    Item::Record {
+        size: answer.size as usize,
+        header: Header {
+            kind: HeaderKind::of(answer.header),
+            version: answer.version as u16,
+            event: answer.event as u16,
+            modifier: answer.modifier as u16,
+            seconds: answer.seconds,
+            nanoseconds: answer.fraction,
+        },
+        body: held(trail, answer),
+        tokens: answer.tokens as usize,
     }
 }
 

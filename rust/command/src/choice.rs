@@ -1,4 +1,4 @@
-//! Choosing items, by the options that list, print and follow share.
+//! Choosing items, by the options that all subcommands share.
 
 use crate::args::Given;
 use crate::fields::time_of;
@@ -104,7 +104,7 @@ fn once<T>(slot: &mut Option<T>, option: &str, value: T) -> Result<(), String> {
 }
 
 /// A number that its field can hold, decimal or hexadecimal behind `0x`.
-fn number<T>(option: &str, given: &mut Given<'_>, most: T) -> Result<T, String>
+pub fn number<T>(option: &str, given: &mut Given<'_>, most: T) -> Result<T, String>
 where
     T: TryFrom<u64> + Display,
 {

@@ -4,6 +4,7 @@
 mod args;
 mod choice;
 mod commands;
+mod each;
 mod escape;
 mod fields;
 mod followed;
@@ -14,6 +15,7 @@ mod reading;
 mod spoilt;
 mod status;
 mod system;
+mod tail;
 mod text;
 mod time;
 mod whole;

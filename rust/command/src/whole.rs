@@ -1,8 +1,8 @@
 //! Showing files that are read whole, for list and print.
 
 use crate::args::{Files, Halt};
-use crate::form::Form;
-use crate::output::{output, say_unread, title, Output};
+use crate::each::show_each;
+use crate::output::Output;
 use crate::reading::{say_stop, View};
 use crate::status::Status;
 use bsm::State;
@@ -10,29 +10,11 @@ use std::ffi::OsStr;
 use std::fs;
 use std::io::{self, stdin, Read, Write};
 
-/// Shows each file, and answers the worst of their statuses. One that cannot
-/// be read is said and passed over.
+/// Shows each file as a whole.
 pub fn show(files: &Files, view: &View) -> Result<Status, Halt> {
-    let mut out = output()?;
-    let mut status = files.status;
-    let headed = files.names.len() > 1 && view.form != Form::Json;
-    let mut before = "";
-    for name in &files.names {
-        let trail = match read(name) {
-            Ok(trail) => trail,
-            Err(error) => {
-                say_unread(name, &error);
-                status = status.max(Status::Failed);
-                continue;
-            }
-        };
-        if headed {
-            writeln!(out, "{before}==> {} <==", title(name))?;
-            before = "\n";
-        }
-        status = status.max(show_one(&mut out, name, &trail, view)?);
-    }
-    Ok(status)
+    show_each(files, view.form, read, |out, name, trail| {
+        show_one(out, name, &trail, view)
+    })
 }
 
 /// Shows one trail.

@@ -4,7 +4,7 @@ use crate::expect;
 use crate::reading::show;
 use crate::tally::Tally;
 use bsm::Newest;
-use generator::{ending, Rng};
+use generator::{ending_at, Rng};
 use reference::{Before, Item, State};
 
 /// The library's answer that an answer of the reference stands for.
@@ -31,7 +31,7 @@ pub fn same_before<'a>(tally: &mut Tally, trail: &'a [u8], place: usize) -> Befo
         "step back from {place} of {}",
         show(trail)
     );
-    tally.ending(ending(trail, place));
+    tally.ending(ending_at(trail, place));
     match (plain, found) {
         (Before::Refused(refusal), _) => tally.answer(Some(refusal)),
         (Before::Record { item, .. }, Ok(bsm::Before::Record { item: found, .. })) => {

@@ -30,7 +30,7 @@ pub fn compare_seed(tally: &mut Tally, seed: u64) {
         same_tokens(tally, &mut rng, &body);
     }
     for aim in ENDINGS {
-        let (trail, place) = ended(&mut rng, aim);
+        let (trail, place) = with_ending(&mut rng, aim);
         same_before(tally, &trail, place);
         same_around(tally, &mut rng, &trail, place);
     }

@@ -39,7 +39,7 @@ pub const ENDINGS: [Ending; 9] = [
 ];
 
 /// What stands before a place of a trail.
-pub fn ending(trail: &[u8], place: usize) -> Ending {
+pub fn ending_at(trail: &[u8], place: usize) -> Ending {
     let Some(before) = trail.get(..place) else {
         return Beyond;
     };
@@ -73,7 +73,7 @@ fn trailer(count: u32) -> Vec<u8> {
 }
 
 /// A trail and a place that has, mostly, this before it.
-pub fn ended(rng: &mut Rng, ending: Ending) -> (Vec<u8>, usize) {
+pub fn with_ending(rng: &mut Rng, ending: Ending) -> (Vec<u8>, usize) {
     let items = rng.below(3);
     let mut trail = good_trail(rng, items);
     match ending {

@@ -28,7 +28,7 @@ mod workload;
 
 pub use calls::{write_calls, WriteArgs, WriteCall};
 pub use damage::{damage, damage_body};
-pub use endings::{ended, ending, file_like_trailer, Ending, ENDINGS};
+pub use endings::{ending_at, file_like_trailer, with_ending, Ending, ENDINGS};
 pub use good::{good_body, good_file, good_header, good_record, good_token, good_trail};
 pub use input::{any_body, any_input, growth, program_input, random_trail, wild_place, wild_state};
 pub use layout::{header_size, raw_file, raw_record, TEXT_NUMBERS, TOKEN_NUMBERS};

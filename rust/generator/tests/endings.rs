@@ -24,8 +24,8 @@ fn each_is_met_where_it_is_aimed_at() {
     for aim in ENDINGS {
         let mut met = 0;
         for _ in 0..400 {
-            let (trail, place) = ended(&mut rng, aim);
-            let found = ending(&trail, place);
+            let (trail, place) = with_ending(&mut rng, aim);
+            let found = ending_at(&trail, place);
             met += usize::from(found == aim);
             let before = record_before(&trail, place);
             assert!(fits(found, before), "{found:?}: {before:?}");
@@ -42,7 +42,7 @@ fn places_of_mixed_trails_meet_most_of_them() {
     for _ in 0..4_000 {
         let (trail, _) = any_input(&mut rng);
         for place in 0..=trail.len().min(500) + 1 {
-            *kinds.entry(ending(&trail, place)).or_insert(0) += 1;
+            *kinds.entry(ending_at(&trail, place)).or_insert(0) += 1;
         }
     }
     println!("{kinds:?}");
@@ -62,6 +62,6 @@ fn names_that_end_like_a_trailer() {
         let file = file_like_trailer(&mut rng);
         let run = reference::run(&file, reference::State::default());
         assert_eq!((run.refusal, run.state.files), (None, 1));
-        assert_eq!(ending(&file, file.len()), Ending::LargeCount);
+        assert_eq!(ending_at(&file, file.len()), Ending::LargeCount);
     }
 }

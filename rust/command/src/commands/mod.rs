@@ -6,6 +6,7 @@ use std::ffi::OsString;
 
 mod follow;
 mod list;
+mod newest;
 mod print;
 
 /// A subcommand.
@@ -21,4 +22,5 @@ pub struct Subcommand {
 }
 
 /// All of them, in the order of the help.
-pub static SUBCOMMANDS: [Subcommand; 3] = [list::LIST, print::PRINT, follow::FOLLOW];
+pub static SUBCOMMANDS: [Subcommand; 4] =
+    [list::LIST, print::PRINT, newest::NEWEST, follow::FOLLOW];

@@ -6,10 +6,11 @@ use std::fs::File;
 use std::io::{pipe, Read};
 use std::process::{Command, Stdio};
 
-const WAYS: [&[&str]; 5] = [
+const WAYS: [&[&str]; 6] = [
     &["print"],
     &["print", "--json"],
     &["list"],
+    &["newest"],
     &["follow"],
     &["follow", "--list"],
 ];

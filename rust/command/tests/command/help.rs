@@ -2,7 +2,7 @@
 
 use crate::run::*;
 
-const SUBCOMMANDS: [&str; 3] = ["list", "print", "follow"];
+const SUBCOMMANDS: [&str; 4] = ["list", "print", "newest", "follow"];
 
 fn help(words: &[&str]) -> String {
     let ended = ended(bsm(words));
@@ -62,6 +62,7 @@ fn lines_fit_a_terminal() {
         &["help"][..],
         &["help", "list"],
         &["help", "print"],
+        &["help", "newest"],
         &["help", "follow"],
     ] {
         let help = help(words);

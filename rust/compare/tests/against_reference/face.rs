@@ -292,9 +292,9 @@ fn steps_back_field_by_field() {
     let mut tally = Tally::new();
     for _ in 0..1_000 {
         for aim in ENDINGS {
-            let (trail, place) = ended(&mut rng, aim);
+            let (trail, place) = with_ending(&mut rng, aim);
             for place in [place, wild_place(&mut rng, trail.len())] {
-                tally.ending(ending(&trail, place));
+                tally.ending(ending_at(&trail, place));
                 // SAFETY: the pointer and the length are those of `trail`.
                 let found = unsafe { bsm_record_before(trail.as_ptr(), trail.len(), place) };
                 assert_eq!(

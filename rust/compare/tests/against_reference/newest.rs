@@ -11,7 +11,7 @@ fn small_trail(rng: &mut Rng) -> Vec<u8> {
         let trail = match rng.below(4) {
             0 => any_input(rng).0,
             1 => good_trail(rng, 4),
-            _ => ended(rng, aim).0,
+            _ => with_ending(rng, aim).0,
         };
         if trail.len() <= 400 {
             return trail;
@@ -42,7 +42,7 @@ fn aimed_at_each_answer_and_with_other_bytes_around() {
     let mut tally = Tally::new();
     while tally.inputs() < AIMED_BACK {
         for aim in ENDINGS {
-            let (trail, place) = ended(&mut rng, aim);
+            let (trail, place) = with_ending(&mut rng, aim);
             same_before(&mut tally, &trail, place);
             same_newest(&trail);
             for _ in 0..3 {
