@@ -69,6 +69,7 @@ fn main() -> ExitCode {
         newest::load("newest, usual records", &usual, usize::MAX),
         newest::load("newest 100 of 4 MB", &usual, 100),
         newest::load("newest 100 of 64 MB", &long, 100),
+        newest::forward("100 of 64 MB, forward", &long, 100),
         tokens::load("tokens, usual records", &usual),
         tokens::load("tokens, large exec_env", &exec),
         write::load("write, usual records", &usual),
