@@ -22,9 +22,10 @@ pub const NEWEST: Subcommand = Subcommand {
 usage: bsm newest [-n N] [--json] [OPTION..] [FILE..]
 
 Prints the records of each FILE, or of standard input for - or without a FILE, newest
-first, back to the last file token or the start. Of a file only as much of its end is
-read as that takes. What stands before is not looked at: only list, print and follow
-tell that a trail is accepted as a whole.
+first, back to the last file token or the start, and ends with status 1 where it meets
+anything else. Of a file only as much of its end is read as that takes, so only list,
+print and follow tell that a trail is accepted as a whole. A trail that does not end
+with an item is read from its start.
   -n N           at most N records
   --json         lines as print --json has them
 
