@@ -8,8 +8,12 @@ use std::hint::black_box;
 /// bodies.
 pub fn load<'a>(name: &'static str, trail: &'a [u8], most: usize) -> Workload<'a> {
     let proved = move || {
+        let mut newest = bsm::Newest::new(black_box(trail));
         let mut sum = 0;
-        for (place, item) in bsm::Newest::new(black_box(trail)).take(most) {
+        for _ in 0..most {
+            let Some((place, item)) = newest.next() else {
+                break;
+            };
             if let bsm::Item::Record {
                 header,
                 body,
@@ -45,8 +49,9 @@ pub fn load<'a>(name: &'static str, trail: &'a [u8], most: usize) -> Workload<'a
         }
         sum
     };
-    let walked = bsm::Newest::new(trail).take(most);
-    let (count, start) = walked.fold((0, trail.len()), |(n, _), (place, _)| (n + 1, place));
+    let walked = reference::newest(trail).0;
+    let count = walked.len().min(most);
+    let start = walked[count - 1].0;
     Workload {
         name,
         bytes: trail.len() - start,
@@ -60,24 +65,24 @@ pub fn load<'a>(name: &'static str, trail: &'a [u8], most: usize) -> Workload<'a
 /// The places of the last `most` records of a trail, by reading all of it.
 pub fn forward<'a>(name: &'static str, trail: &'a [u8], most: usize) -> Workload<'a> {
     let proved = move || {
-        let items = bsm::Items::new(black_box(trail), bsm::State::default());
-        last(
-            most,
-            items.map_while(|item| black_box(item).ok().map(|(place, _)| place)),
-        )
+        let mut last = Last::new(most);
+        for item in bsm::Items::new(black_box(trail), bsm::State::default()) {
+            let Ok((place, _)) = black_box(item) else {
+                return 0;
+            };
+            last.push(place);
+        }
+        last.sum()
     };
     let plain = move || {
         let trail = black_box(trail);
-        let mut at = 0;
-        let places = std::iter::from_fn(|| match black_box(reference::item_at(trail, at)) {
-            reference::Answer::Item(item) => {
-                let place = at;
-                at += item.size();
-                Some(place)
-            }
-            _ => None,
-        });
-        last(most, places)
+        let mut last = Last::new(most);
+        let mut place = 0;
+        while let reference::Answer::Item(item) = black_box(reference::item_at(trail, place)) {
+            last.push(place);
+            place += item.size();
+        }
+        last.sum()
     };
     Workload {
         name,
@@ -89,14 +94,26 @@ pub fn forward<'a>(name: &'static str, trail: &'a [u8], most: usize) -> Workload
     }
 }
 
-/// The sum of the last `most` places.
-fn last(most: usize, places: impl Iterator<Item = usize>) -> usize {
-    let mut kept = VecDeque::with_capacity(most);
-    for place in places {
-        if kept.len() == most {
-            kept.pop_front();
-        }
-        kept.push_back(place);
+/// The last places of many.
+struct Last {
+    most: usize,
+    kept: VecDeque<usize>,
+}
+
+impl Last {
+    fn new(most: usize) -> Self {
+        let kept = VecDeque::with_capacity(most);
+        Last { most, kept }
     }
-    kept.into_iter().sum()
+
+    fn push(&mut self, place: usize) {
+        if self.kept.len() == self.most {
+            self.kept.pop_front();
+        }
+        self.kept.push_back(place);
+    }
+
+    fn sum(&self) -> usize {
+        self.kept.iter().sum()
+    }
 }

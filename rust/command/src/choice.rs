@@ -108,10 +108,17 @@ pub fn number<T>(option: &str, given: &mut Given<'_>, most: T) -> Result<T, Stri
 where
     T: TryFrom<u64> + Display,
 {
-    let text = given.value()?;
+    number_in(option, &given.value()?, most)
+}
+
+/// The number that a text is.
+pub fn number_in<T>(option: &str, text: &str, most: T) -> Result<T, String>
+where
+    T: TryFrom<u64> + Display,
+{
     let (digits, radix) = match text.strip_prefix("0x") {
         Some(digits) => (digits, 16),
-        None => (&text[..], 10),
+        None => (text, 10),
     };
     // Without signs, which the standard library would take.
     let unsigned = digits.chars().all(|digit| digit.is_digit(radix));

@@ -2,7 +2,7 @@
 
 use super::Subcommand;
 use crate::args::{read, Halt};
-use crate::choice::{number, Choice, HELP};
+use crate::choice::{number, number_in, Choice, HELP};
 use crate::each::show_each;
 use crate::form::Form;
 use crate::output::{say, say_unread, title, Output};
@@ -43,7 +43,10 @@ fn run(words: Vec<OsString>) -> Result<Status, Halt> {
         match option {
             "-n" => most = number(option, given, usize::MAX)?,
             "--json" => form = Form::Json,
-            _ => return choice.take(option, given),
+            _ => match option.strip_prefix("-n") {
+                Some(digits) => most = number_in("-n", digits, usize::MAX)?,
+                None => return choice.take(option, given),
+            },
         }
         Ok(true)
     })?;

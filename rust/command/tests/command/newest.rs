@@ -172,11 +172,16 @@ fn at_most_so_many() {
         let end = starts.get(most).copied().unwrap_or(all.len());
         assert!(some.stdout == all[..end], "{most}");
         assert_eq!((some.status, &some.stderr[..]), (0, ""));
+        for word in [format!("-n{most}"), format!("-n={most}")] {
+            assert_eq!(ended(scratch.bsm(["newest", &word, "long"])), some);
+        }
     }
     for word in ["x", "-1", "", "1.5", "18446744073709551616"] {
         let wrong = ended(scratch.bsm(["newest", "-n", word, "long"]));
         assert_eq!((wrong.status, &wrong.stdout[..]), (2, &b""[..]), "{word}");
         assert!(wrong.stderr.ends_with("see 'bsm help newest'\n"));
+        let joined = ended(scratch.bsm(["newest", &format!("-n{word}x"), "long"]));
+        assert_eq!((joined.status, &joined.stdout[..]), (2, &b""[..]), "{word}");
     }
 }
 
