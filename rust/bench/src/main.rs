@@ -3,11 +3,14 @@
 //!
 //!     cargo run --release -p bench -- [--rounds N]
 
-#![forbid(unsafe_code)]
+#![deny(unsafe_code)]
 
+mod earlier;
 mod list;
+mod memchr;
 mod newest;
 mod read;
+mod strides;
 mod table;
 mod timing;
 mod tokens;
@@ -79,11 +82,14 @@ fn main() -> ExitCode {
     ];
 
     println!("{ABOUT}\n\n{rounds} rounds\n");
-    let mut table = Table::new();
+    let mut table = Table::new(&table::MEASURED);
     for load in loads {
-        table.row(&measure(load, rounds));
+        table.row(table::measured(&measure(load, rounds)));
     }
     print!("{table}");
+
+    println!("\n{}\n", strides::ABOUT);
+    print!("{}", strides::table(BYTES, rounds));
     ExitCode::SUCCESS
 }
 

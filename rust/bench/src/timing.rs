@@ -78,7 +78,7 @@ pub fn measure(load: Workload<'_>, rounds: usize) -> Measured {
 }
 
 /// How many passes last long enough.
-fn passes(pass: &mut impl FnMut() -> usize) -> usize {
+pub fn passes(pass: &mut impl FnMut() -> usize) -> usize {
     let mut passes = 1;
     loop {
         let lasted = time(pass, passes) * passes as f64;
@@ -90,7 +90,7 @@ fn passes(pass: &mut impl FnMut() -> usize) -> usize {
 }
 
 /// Seconds of one of these passes.
-fn time(pass: &mut impl FnMut() -> usize, passes: usize) -> f64 {
+pub fn time(pass: &mut impl FnMut() -> usize, passes: usize) -> f64 {
     let start = Instant::now();
     for _ in 0..passes {
         black_box(pass());
@@ -98,7 +98,8 @@ fn time(pass: &mut impl FnMut() -> usize, passes: usize) -> f64 {
     start.elapsed().as_secs_f64() / passes as f64
 }
 
-fn times(mut rounds: Vec<f64>) -> Times {
+/// Best and median of some rounds.
+pub fn times(mut rounds: Vec<f64>) -> Times {
     rounds.sort_by(f64::total_cmp);
     Times {
         best: rounds[0],

@@ -40,4 +40,5 @@ pub use stored::{stored_files, StoredFile};
 pub use targeted::{many_faults, targeted};
 pub use token_args::{good_args, TokenArgs};
 pub use versions::{large_version, Beside, LARGE_VERSIONS};
-pub use workload::{large_exec, large_opaque, small_records, usual_records};
+pub use workload::{exec_records, large_exec, large_opaque, text_records};
+pub use workload::{small_records, usual_records};

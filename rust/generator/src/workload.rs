@@ -4,6 +4,7 @@ use crate::good::{record_bytes, token_bytes, token_with};
 use crate::rng::Rng;
 use crate::token_args::good_args;
 use reference::{Header, WriteToken};
+use std::ops::RangeInclusive;
 
 /// Records of one kind until the trail has `bytes` bytes or more.
 fn trail_of(seed: u64, bytes: usize, mut record: impl FnMut(&mut Rng) -> (u8, Vec<u8>)) -> Vec<u8> {
@@ -90,6 +91,44 @@ pub fn large_exec(bytes: usize) -> Vec<u8> {
             strings: &[],
         };
         (0x14, token_with(fields, strings))
+    })
+}
+
+/// Records with one exec_args token, or one exec_env token where `env` says
+/// so, whose strings, with their zero bytes, have about `size` bytes.
+/// `lengths` are those of a string without its zero byte.
+pub fn exec_records(
+    bytes: usize,
+    env: bool,
+    size: RangeInclusive<usize>,
+    lengths: RangeInclusive<usize>,
+) -> Vec<u8> {
+    trail_of(5, bytes, |rng| {
+        let size = rng.between(*size.start(), *size.end());
+        let mut strings = Vec::new();
+        let mut count = 0;
+        while strings.len() < size {
+            let length = rng.between(*lengths.start(), *lengths.end());
+            strings.extend(printable(rng, length));
+            strings.push(0);
+            count += 1;
+        }
+        let strings_of = if env {
+            |count, strings| WriteToken::ExecEnv { count, strings }
+        } else {
+            |count, strings| WriteToken::ExecArgs { count, strings }
+        };
+        (0x14, token_with(strings_of(count, &[]), strings))
+    })
+}
+
+/// Records with one text token; its text has one of these lengths, its zero
+/// byte included.
+pub fn text_records(bytes: usize, lengths: RangeInclusive<usize>) -> Vec<u8> {
+    trail_of(6, bytes, |rng| {
+        let length = rng.between(*lengths.start(), *lengths.end());
+        let text = printable(rng, length - 1);
+        (0x14, token_with(WriteToken::Text { text: &[] }, text))
     })
 }
 

@@ -13,6 +13,7 @@ mod placed;
 mod places;
 mod program;
 mod soak;
+mod strings;
 mod texts;
 mod texts_cut;
 mod texts_written;

@@ -12,7 +12,15 @@ pub const TOKENS: [(u8, usize); 4] = [(0x23, 3), (0x28, 3), (0x2D, 8), (0x71, 12
 
 /// Lengths of texts with their zero byte.
 pub fn lengths() -> impl Iterator<Item = usize> {
-    let around = [62..=66, 126..=130, 142..=147, 158..=161, 255..=258];
+    let around = [
+        62..=66,
+        126..=130,
+        142..=147,
+        158..=161,
+        191..=194,
+        207..=210,
+        255..=258,
+    ];
     let largest = [1_022, 1_023, 1_024];
     (1..=41).chain(around.into_iter().flatten()).chain(largest)
 }

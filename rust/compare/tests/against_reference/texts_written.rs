@@ -2,7 +2,7 @@
 //! P1): its place in what is given.
 
 use crate::placed::{bad_text, lengths, text};
-use bsm::{NewToken, Reason, Refusal, Strings, Token};
+use bsm::{NewToken, Reason, Refusal, Token};
 use generator::Rng;
 use std::mem::replace;
 
@@ -152,44 +152,4 @@ fn refusals_before_a_zero_byte() {
         let late: Write = |dst, name| bsm::write_file(dst, 5, 1_000_000, name);
         refuses(late, name, refusal(Reason::TimeRange));
     }
-}
-
-/// Asserts what the writers of exec tokens answer, and says whether the bytes
-/// are as many strings as said.
-fn exec(count: u32, bytes: &[u8]) -> bool {
-    let zeros = bytes.iter().filter(|&&byte| byte == 0).count();
-    let good = zeros == count as usize && bytes.last().is_none_or(|&last| last == 0);
-    let strings = Strings { count, bytes };
-    let expected = match good {
-        true => Ok(5 + bytes.len()),
-        false => Err(bad_text(0)),
-    };
-    for given in [Token::ExecArgs(strings), Token::ExecEnv(strings)] {
-        let mut dst = [0xA5; 40];
-        let found = bsm::write_token(&mut dst, &given);
-        assert_eq!(found, expected, "{given:?}");
-        assert!(good || dst == [0xA5; 40]);
-    }
-    good
-}
-
-/// Bytes that are not as many strings as said report 0, wherever a zero byte
-/// is missing or one too many.
-#[test]
-fn strings_that_are_not_as_said() {
-    let mut seen = [0, 0];
-    for count in [0, 1, 2, 3, 4, 5, u32::MAX] {
-        let mut bytes = *b"ls\0-l\0\0/tmp\0";
-        for at in 0..bytes.len() {
-            for byte in [0, b'x'] {
-                let old = replace(&mut bytes[at], byte);
-                for end in [at, at + 1, bytes.len()] {
-                    seen[usize::from(exec(count, &bytes[..end]))] += 1;
-                }
-                bytes[at] = old;
-            }
-        }
-    }
-    println!("{} not as said, {} as said", seen[0], seen[1]);
-    assert!(seen[0] > 400 && seen[1] > 40);
 }
