@@ -2,13 +2,14 @@
 
 use crate::damage::damage_body;
 use crate::good::{body_for, good_body, good_header_of};
-use crate::layout::{header_size, Tail, TOKEN_NUMBERS};
+use crate::header_args::HeaderArgs;
+use crate::layout::{is_expanded, Tail, HEADER_NUMBERS, TOKEN_NUMBERS};
 use crate::rng::Rng;
 use crate::targeted::bad_body;
 use crate::token_args::{good_args, TokenArgs};
 use crate::values;
 use crate::versions::large_version_args;
-use reference::{write_file, write_record, write_token, Header, Refusal};
+use reference::{write_file, write_record, write_token, Refusal};
 
 /// The arguments of one writer.
 #[derive(Clone, Debug)]
@@ -27,7 +28,7 @@ pub enum WriteArgs {
     /// For the record writer.
     Record {
         /// The header.
-        header: Header,
+        header: HeaderArgs,
         /// The body.
         body: Vec<u8>,
     },
@@ -48,7 +49,7 @@ impl WriteArgs {
         match self {
             WriteArgs::Token(args) => args.size(),
             WriteArgs::File { name, .. } => 11 + name.len() + 1,
-            WriteArgs::Record { header, body } => header_size(header.number) + body.len() + 7,
+            WriteArgs::Record { header, body } => header.size() + body.len() + 7,
         }
     }
 
@@ -61,25 +62,25 @@ impl WriteArgs {
                 microseconds,
                 name,
             } => write_file(dst, *seconds, *microseconds, name),
-            WriteArgs::Record { header, body } => write_record(dst, header, body),
+            WriteArgs::Record { header, body } => write_record(dst, &header.header(), body),
         }
     }
 }
 
-/// One call for each of the twenty token kinds, for the file token and for
-/// records with either header, and one more for each header with a version
+/// One call for each of the twenty-five token kinds, for the file token and
+/// for records with each header, and one more for each header with a version
 /// that is too large. About half of the others that can be refused for their
 /// values are.
 pub fn write_calls(rng: &mut Rng) -> Vec<WriteCall> {
-    let mut all = Vec::with_capacity(TOKEN_NUMBERS.len() + 5);
+    let mut all = Vec::with_capacity(TOKEN_NUMBERS.len() + 1 + 2 * HEADER_NUMBERS.len());
     for number in TOKEN_NUMBERS {
         all.push(WriteArgs::Token(token(rng, number)));
     }
     all.push(file(rng));
-    all.push(record(rng, 0x14));
-    all.push(record(rng, 0x74));
-    all.push(large_version_args(rng, 0x14));
-    all.push(large_version_args(rng, 0x74));
+    for number in HEADER_NUMBERS {
+        all.push(record(rng, number));
+        all.push(large_version_args(rng, number));
+    }
     all.into_iter()
         .map(|args| {
             let room = room(rng, args.size());
@@ -130,6 +131,7 @@ fn token(rng: &mut Rng, number: u8) -> TokenArgs {
         }
         Tail::Groups => {}
         Tail::Strings => bad_strings(rng, &mut args),
+        Tail::Address => args.bytes = values::bad_address(rng),
     }
     args
 }
@@ -189,28 +191,31 @@ fn file(rng: &mut Rng) -> WriteArgs {
 fn record(rng: &mut Rng, number: u8) -> WriteArgs {
     let mut header = good_header_of(rng, number);
     if rng.chance(8) {
-        header.version = rng.pick(&[254, 255, 256, u16::MAX]);
+        header.fields.version = rng.pick(&[254, 255, 256, u16::MAX]);
     }
     if rng.chance(4) {
         let any = rng.u64();
-        header.seconds = rng.pick(&[0xFFFF_FFFF, 0x1_0000_0000, u64::MAX, any]);
+        header.fields.seconds = rng.pick(&[0xFFFF_FFFF, 0x1_0000_0000, u64::MAX, any]);
     }
     if rng.chance(4) {
         let width = rng.pick(&[32, 64]);
-        header.nanoseconds = values::over(rng, 999_999_999, width);
+        header.fields.nanoseconds = values::over(rng, 999_999_999, width);
     }
     let mut body = good_body(rng);
     if rng.chance(16) {
         let size = rng.pick(&[65_534, 65_535, 65_536, 65_537, 65_544]);
-        body = body_for(rng, number, size);
+        body = body_for(rng, header.size(), size);
     }
     match rng.below(6) {
         0 => damage_body(rng, &mut body),
         1 => {
-            let refused = rng.pick(&[6, 7, 8]);
+            let refused = rng.pick(&[6, 7, 8, 13]);
             body = bad_body(rng, refused);
         }
         _ => {}
+    }
+    if is_expanded(number) && rng.chance(4) {
+        header.address = values::bad_address(rng);
     }
     WriteArgs::Record { header, body }
 }

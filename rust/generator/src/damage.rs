@@ -1,9 +1,20 @@
 //! Damage to trails and bodies.
 
-use crate::layout::{framed, get16, get32, header_size, items, set, shape, tokens};
-use crate::layout::{Tail, TOKEN_NUMBERS};
+use crate::expanded::with_one_byte_type;
+use crate::layout::{framed, get16, get32, head_size, is_expanded, is_narrow, items, set, shape};
+use crate::layout::{tokens, Tail, TOKEN_NUMBERS};
 use crate::rng::Rng;
 use crate::texts::spoil;
+use crate::values;
+
+/// Counts of records at their bounds: the smallest ones of each header and of
+/// the larger address, with neighbours, and the largest.
+pub(crate) const COUNTS: [u32; 15] = [
+    0, 24, 25, 32, 33, 34, 40, 41, 44, 45, 52, 53, 65_535, 65_536, 0xFFFFFFFF,
+];
+
+/// Bytes that begin items or a trailer.
+const STARTS: [u8; 6] = [0x11, 0x13, 0x14, 0x15, 0x74, 0x79];
 
 /// Damages a trail in one to three ways. Now and then it stays good.
 pub fn damage(rng: &mut Rng, trail: &mut Vec<u8>) {
@@ -76,7 +87,7 @@ fn damage_bytes(rng: &mut Rng, bytes: &mut Vec<u8>) {
             let middle = rng.below(end - at);
             bytes[at..end].rotate_left(middle);
         }
-        _ => bytes.push(rng.pick(&[0, 0x11, 0x13, 0x14, 0x74, 0xFF])),
+        _ => bytes.push(rng.pick(&[0, 0x11, 0x13, 0x14, 0x15, 0x74, 0x79, 0xFF])),
     }
 }
 
@@ -121,12 +132,12 @@ fn damage_file(rng: &mut Rng, file: &mut [u8]) {
 
 /// Damages the record at `start`.
 fn damage_record(rng: &mut Rng, trail: &mut Vec<u8>, start: usize, size: usize) {
-    const COUNTS: [u32; 10] = [0, 24, 25, 26, 32, 33, 34, 65_535, 65_536, u32::MAX];
     let end = start + size;
-    let head = header_size(trail[start]);
+    let head = head_size(&trail[start..end]);
     match rng.below(13) {
+        _ if is_expanded(trail[start]) && rng.chance(5) => damage_type(rng, trail, start, end),
         0 if rng.chance(2) => trail[start] = rng.byte(),
-        0 => trail[start] = rng.pick(&[0x11, 0x13, 0x14, 0x74]),
+        0 => trail[start] = rng.pick(&STARTS),
         1 | 2 => {
             let count = odd32(rng, size, &COUNTS);
             set(trail, start + 1, &count);
@@ -162,7 +173,7 @@ fn damage_record(rng: &mut Rng, trail: &mut Vec<u8>, start: usize, size: usize) 
 
 /// A record again with two bytes for its version.
 fn with_two_bytes(record: &[u8]) -> Vec<u8> {
-    let (head, rest) = record.split_at(header_size(record[0]));
+    let (head, rest) = record.split_at(head_size(record));
     let mut head = head.to_vec();
     head.insert(5, 0);
     framed(&head, &rest[..rest.len() - 7])
@@ -171,12 +182,34 @@ fn with_two_bytes(record: &[u8]) -> Vec<u8> {
 /// Sets the nanoseconds of a record to a bound.
 fn damage_nanoseconds(rng: &mut Rng, record: &mut [u8]) {
     let nanos = rng.pick(&[999_999_999, 1_000_000_000, u64::MAX, 1 << 32, 1 << 63]);
-    let end = header_size(record[0]);
-    if record[0] == 0x14 {
+    let end = head_size(record);
+    if is_narrow(record[0]) {
         set(record, end - 4, &(nanos as u32).to_be_bytes());
     } else {
         set(record, end - 8, &nanos.to_be_bytes());
     }
+}
+
+/// Damages the type in the header of the record from `start` to `end`.
+fn damage_type(rng: &mut Rng, trail: &mut Vec<u8>, start: usize, end: usize) {
+    let record = &trail[start..end];
+    if rng.chance(4) && record.len() >= head_size(record) + 7 {
+        trail.splice(start..end, with_one_byte_type(record));
+    } else {
+        let kind = odd_type(rng, trail, start + 10);
+        set(&mut trail[..end], start + 10, &kind);
+    }
+}
+
+/// Another type for an address, whose type stands at `field`: the other one, or
+/// none.
+fn odd_type(rng: &mut Rng, bytes: &[u8], field: usize) -> [u8; 4] {
+    let new = match get32(bytes, field) {
+        Some(4) if rng.chance(3) => 16,
+        Some(16) if rng.chance(3) => 4,
+        _ => values::bad_type(rng),
+    };
+    new.to_be_bytes()
 }
 
 /// Another length for the text or bytes at `field` of a body.
@@ -199,7 +232,7 @@ fn damage_token(rng: &mut Rng, body: &mut Vec<u8>, start: usize, size: usize) {
     let field = start + fixed;
     match rng.below(8) {
         0 => body[start] = rng.byte(),
-        1 => body[start] = rng.pick(&[0x11, 0x13, 0x14, 0x74]),
+        1 => body[start] = rng.pick(&STARTS),
         2 => body[start] = rng.pick(&TOKEN_NUMBERS),
         3 => body.truncate(start + rng.below(size)),
         _ => match tail {
@@ -217,6 +250,10 @@ fn damage_token(rng: &mut Rng, body: &mut Vec<u8>, start: usize, size: usize) {
                     _ => odd16(rng, old),
                 };
                 set(body, field - 2, &new);
+            }
+            Tail::Address => {
+                let kind = odd_type(rng, body, field - 4);
+                set(body, field - 4, &kind);
             }
             Tail::Strings if rng.chance(3) => spoil(rng, &mut body[field..start + size]),
             Tail::Strings => {

@@ -1,6 +1,7 @@
 //! What a step back from a place of a trail meets (paper 02, P3), told from
 //! the bytes before the place, and inputs aimed at each.
 
+use crate::expanded::any_address_fault;
 use crate::good::{good_file, good_header, good_record, good_trail};
 use crate::layout::{get32, raw_file, raw_record, set};
 use crate::rng::Rng;
@@ -187,13 +188,16 @@ fn refused_record(rng: &mut Rng) -> Vec<u8> {
         set(&mut record, end - 4, &count.to_be_bytes());
         return record;
     }
+    if rng.chance(4) {
+        return any_address_fault(rng);
+    }
     let mut header = good_header(rng);
     let body = if rng.chance(4) {
-        header.nanoseconds = values::over(rng, 999_999_999, 32);
+        header.fields.nanoseconds = values::over(rng, 999_999_999, 32);
         Vec::new()
     } else {
-        let number = rng.between(6, 8) as u8;
+        let number = rng.pick(&[6, 7, 8, 13]);
         bad_body(rng, number)
     };
-    raw_record(&header, &body)
+    raw_record(&header.header(), &body)
 }

@@ -1,6 +1,7 @@
 //! Good tokens, bodies, items and trails.
 
-use crate::layout::{header_size, TOKEN_NUMBERS};
+use crate::header_args::HeaderArgs;
+use crate::layout::{header_size, is_expanded, is_narrow, HEADER_NUMBERS, TOKEN_NUMBERS};
 use crate::rng::Rng;
 use crate::token_args::{good_args, TokenArgs};
 use crate::values;
@@ -32,7 +33,7 @@ pub fn good_token(rng: &mut Rng) -> Vec<u8> {
     token_bytes(&good_args(rng, number))
 }
 
-/// A good body, small enough for either header; often empty.
+/// A good body, small enough for any header; often empty.
 pub fn good_body(rng: &mut Rng) -> Vec<u8> {
     let count = match rng.below(16) {
         0..=2 => 0,
@@ -43,37 +44,43 @@ pub fn good_body(rng: &mut Rng) -> Vec<u8> {
     let mut body = Vec::new();
     for _ in 0..count {
         let token = good_token(rng);
-        if body.len() + token.len() <= RECORD_MAX - header_size(0x74) - 7 {
+        if body.len() + token.len() <= RECORD_MAX - header_size(0x79) - 16 - 7 {
             body.extend(token);
         }
     }
     body
 }
 
-/// A good header of either kind.
-pub fn good_header(rng: &mut Rng) -> Header {
-    let number = rng.pick(&[0x14, 0x74]);
+/// A good header of any kind.
+pub fn good_header(rng: &mut Rng) -> HeaderArgs {
+    let number = rng.pick(&HEADER_NUMBERS);
     good_header_of(rng, number)
 }
 
 /// A good header with this number.
-pub(crate) fn good_header_of(rng: &mut Rng, number: u8) -> Header {
-    Header {
+pub(crate) fn good_header_of(rng: &mut Rng, number: u8) -> HeaderArgs {
+    let fields = Header {
         number,
         version: values::version(rng),
         event: rng.u16(),
         modifier: rng.u16(),
-        seconds: rng.number(if number == 0x14 { 32 } else { 64 }),
+        address: &[],
+        seconds: rng.number(if is_narrow(number) { 32 } else { 64 }),
         nanoseconds: values::fraction(rng, 999_999_999).into(),
+    };
+    let mut address = Vec::new();
+    if is_expanded(number) {
+        address = values::address(rng);
     }
+    HeaderArgs { fields, address }
 }
 
-/// A body whose record has exactly `size` bytes: one opaque behind a
-/// return token.
-pub(crate) fn body_for(rng: &mut Rng, number: u8, size: usize) -> Vec<u8> {
+/// A body whose record, with a header of `head` bytes, has exactly `size`
+/// bytes: one opaque behind a return token.
+pub(crate) fn body_for(rng: &mut Rng, head: usize, size: usize) -> Vec<u8> {
     let mut body = token_bytes(&good_args(rng, 0x27));
-    let left = size - header_size(number) - 7 - body.len();
-    let bytes = rng.bytes(left - 3);
+    let left = size.saturating_sub(head + 7 + body.len());
+    let bytes = rng.bytes(left.saturating_sub(3));
     body.extend(token_with(WriteToken::Opaque { bytes: &[] }, bytes));
     body
 }
@@ -83,16 +90,17 @@ pub fn good_record(rng: &mut Rng) -> Vec<u8> {
     let header = good_header(rng);
     let body = if rng.chance(2_000) {
         let size = RECORD_MAX - rng.below(2);
-        body_for(rng, header.number, size)
+        body_for(rng, header.size(), size)
     } else {
         good_body(rng)
     };
-    record_bytes(&header, &body)
+    record_bytes(&header.header(), &body)
 }
 
 /// The bytes of a record that the writer takes.
-pub(crate) fn record_bytes(header: &Header, body: &[u8]) -> Vec<u8> {
-    let mut record = vec![0; header_size(header.number) + body.len() + 7];
+pub(crate) fn record_bytes(header: &Header<'_>, body: &[u8]) -> Vec<u8> {
+    let head = header_size(header.number) + header.address.len();
+    let mut record = vec![0; head + body.len() + 7];
     let written = write_record(&mut record, header, body);
     assert_eq!(written, Ok(record.len()), "a good record was refused");
     record

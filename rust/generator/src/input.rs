@@ -2,10 +2,11 @@
 //! grows.
 
 use crate::damage::{damage, damage_body};
+use crate::expanded::any_address_fault;
 use crate::good::{good_body, good_record, good_trail};
-use crate::layout::TOKEN_NUMBERS;
+use crate::layout::{is_expanded, TOKEN_NUMBERS};
 use crate::rng::Rng;
-use crate::targeted::{bad_body, many_faults, targeted};
+use crate::targeted::{bad_body, many_faults, targeted, READ_REFUSALS};
 use reference::State;
 
 /// A small buffer of random bytes that likely begins like an item.
@@ -14,7 +15,7 @@ pub fn random_trail(rng: &mut Rng) -> Vec<u8> {
     let length = rng.below(bound);
     let mut bytes = rng.bytes(length);
     if let Some(first) = bytes.first_mut() {
-        *first = rng.pick(&[0x11, 0x14, 0x74, 0x14, 0x74, *first]);
+        *first = rng.pick(&[0x11, 0x14, 0x74, 0x15, 0x79, *first]);
     }
     if length > 11 && rng.chance(2) {
         // Sizes small enough to fit now and then.
@@ -27,6 +28,10 @@ pub fn random_trail(rng: &mut Rng) -> Vec<u8> {
             _ => {
                 bytes[1..4].copy_from_slice(&[0; 3]);
                 bytes[4] = rng.between(24, 60) as u8;
+                if length > 13 && is_expanded(bytes[0]) {
+                    bytes[10..13].copy_from_slice(&[0; 3]);
+                    bytes[13] = rng.pick(&[4, 16, bytes[13]]);
+                }
             }
         }
     }
@@ -78,7 +83,7 @@ pub fn wild_state(rng: &mut Rng, trail_len: usize) -> State {
 /// A trail of any kind, and a state to read it from, mostly fresh.
 pub fn any_input(rng: &mut Rng) -> (Vec<u8>, State) {
     let items = rng.pick(&[1, 1, 2, 3, 6]);
-    let trail = match rng.below(24) {
+    let trail = match rng.below(28) {
         0..=2 => good_trail(rng, items),
         3..=9 => {
             let mut trail = good_trail(rng, items);
@@ -86,14 +91,18 @@ pub fn any_input(rng: &mut Rng) -> (Vec<u8>, State) {
             trail
         }
         10..=14 => {
-            let number = rng.between(1, 9) as u8;
+            let number = rng.pick(&READ_REFUSALS);
             return targeted(rng, number);
         }
         // 8 comes in many kinds.
         20..=23 => return targeted(rng, 8),
-        15..=17 => {
+        way @ (15..=17 | 24..=27) => {
             let mut trail = good_trail(rng, items / 2);
-            trail.extend(many_faults(rng));
+            trail.extend(match way {
+                15..=17 => many_faults(rng),
+                // So do faults of addresses.
+                _ => any_address_fault(rng),
+            });
             if rng.chance(2) {
                 trail.extend(good_record(rng));
             }
@@ -112,7 +121,7 @@ pub fn any_input(rng: &mut Rng) -> (Vec<u8>, State) {
 /// A body of any kind for the token reader.
 pub fn any_body(rng: &mut Rng) -> Vec<u8> {
     let mut body = good_body(rng);
-    match rng.below(8) {
+    match rng.below(9) {
         0 => {}
         1 => {
             let length = rng.below(50);
@@ -121,8 +130,8 @@ pub fn any_body(rng: &mut Rng) -> Vec<u8> {
                 *first = rng.pick(&TOKEN_NUMBERS);
             }
         }
-        2..=4 => {
-            let number = rng.pick(&[6, 7, 8, 8]);
+        2..=5 => {
+            let number = rng.pick(&[6, 7, 7, 8, 8, 13]);
             body = bad_body(rng, number);
         }
         _ => damage_body(rng, &mut body),

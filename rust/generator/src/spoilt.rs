@@ -2,7 +2,7 @@
 //! reports (paper 02, P1).
 
 use crate::calls::WriteArgs;
-use crate::layout::{get16, header_size, shape, tokens, Tail};
+use crate::layout::{get16, head_size, shape, tokens, Tail};
 
 /// What offends in a text.
 #[derive(Clone, Copy, Debug, PartialEq, Eq, PartialOrd, Ord)]
@@ -71,8 +71,8 @@ pub const SPOILT_CALLS: [(u8, Spoilt); 9] = [
 pub fn spoilt_item(trail: &[u8], start: usize, place: usize) -> (u8, Spoilt) {
     match trail[start] {
         0x11 => (0x11, spoilt(trail, start + 11, place)),
-        number => {
-            let body = start + header_size(number);
+        _ => {
+            let body = start + head_size(&trail[start..]);
             spoilt_body(&trail[body..], place - body)
         }
     }

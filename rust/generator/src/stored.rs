@@ -2,8 +2,9 @@
 //! Whole items are made with the writers of the crate `reference`, the
 //! expected output with its lister.
 
+use crate::expanded::with_one_byte_type;
 use crate::good::{record_bytes, token_with};
-use crate::layout::{raw_file, raw_record, set};
+use crate::layout::{framed, raw_file, raw_record, set};
 use crate::page::page_record;
 use reference::{program_output, write_file, Header, Party, WriteToken};
 
@@ -50,6 +51,10 @@ fn inputs() -> Vec<(&'static str, Vec<u8>)> {
     all.extend(bad_names());
     all.extend(bad_times());
     all.extend(wide_versions());
+    all.push(("expanded", expanded()));
+    all.extend(cut_expanded());
+    all.extend(bad_expanded());
+    all.extend(bad_types());
     all.extend(sizes());
     all
 }
@@ -61,6 +66,7 @@ fn mixed() -> Vec<u8> {
         version: 255,
         event: u16::MAX,
         modifier: u16::MAX,
+        address: &[],
         seconds: u64::MAX,
         nanoseconds: 0,
     };
@@ -182,6 +188,109 @@ fn wide_versions() -> Vec<(&'static str, Vec<u8>)> {
     ]
 }
 
+/// Expanded headers and tokens of every kind, with either address.
+fn expanded() -> Vec<u8> {
+    let small = |address| with_address(0x15, address);
+    let wide = |address| with_address(0x79, address);
+    let latest = Header {
+        version: 255,
+        event: u16::MAX,
+        modifier: u16::MAX,
+        seconds: u64::MAX,
+        nanoseconds: 999_999_999,
+        ..wide(IPV6)
+    };
+    let all: Vec<Vec<u8>> = [IPV4, IPV6]
+        .into_iter()
+        .flat_map(|address| expanded_tokens().map(|token| token_with(token, address.to_vec())))
+        .collect();
+    // The opaque holds a whole expanded record.
+    let inside = record_bytes(&small(IPV4), b"");
+    joined(&[
+        file_a(),
+        record_bytes(&small(IPV4), &joined(&all)),
+        record_bytes(&small(IPV6), &opaque(inside)),
+        smallest(),
+        record_bytes(&wide(IPV4), b""),
+        record_bytes(&latest, &joined(&all)),
+    ])
+}
+
+/// The smallest expanded record, cut in its count, its type and its trailer.
+fn cut_expanded() -> Vec<(&'static str, Vec<u8>)> {
+    let record = record_bytes(&with_address(0x15, IPV4), b"");
+    [
+        ("cut_expanded_4", 4),
+        ("cut_expanded_12", 12),
+        ("cut_expanded_32", 32),
+    ]
+    .map(|(name, length)| (name, record[..length].to_vec()))
+    .to_vec()
+}
+
+/// Refusals of expanded records other than 13: a count below the smaller
+/// record's, and below what type 16 needs; a wrong trailer, which is told
+/// before a wrong type; an expanded header in a body; a body that ends inside
+/// a type, and inside an address; and a time stamp behind the larger address.
+fn bad_expanded() -> Vec<(&'static str, Vec<u8>)> {
+    let large = record_bytes(&with_address(0x79, IPV6), b"");
+    let second = framed(&large[..45], b"");
+    let mut both = record_bytes(&with_address(0x15, IPV4), b"");
+    set(&mut both, 10, &[0; 4]);
+    let end = both.len();
+    set(&mut both, end - 4, &[0; 4]);
+    let inside = record_bytes(&with_address(0x15, IPV4), b"");
+    let late = Header {
+        nanoseconds: 1_000_000_000,
+        ..with_address(0x15, IPV6)
+    };
+    let cut = |token: WriteToken<'static>, left: usize| {
+        let token = token_with(token, IPV6.to_vec());
+        joined(&[return32(), token[..token.len() - left].to_vec()])
+    };
+    let [subject, .., in_addr] = expanded_tokens();
+    vec![
+        ("no4_least", joined(&[file_a(), b"\x15\0\0\0\x20".to_vec()])),
+        ("no4_second", joined(&[smallest(), second])),
+        ("no5_type", both),
+        ("no6_header", raw_record(&HEADER, &inside)),
+        ("no7_type", raw_record(&HEADER, &cut(in_addr, 17))),
+        ("no7_address", raw_record(&HEADER, &cut(subject, 1))),
+        (
+            "no9_expanded",
+            joined(&[smallest(), raw_record(&late, b"")]),
+        ),
+    ]
+}
+
+/// Refusal 13: a type that is neither 4 nor 16 in a header and in a token, and
+/// a type of one byte, as the manual page has it, in either.
+fn bad_types() -> Vec<(&'static str, Vec<u8>)> {
+    let header = raw_record(&with_address(0x79, &[1, 2, 3, 4, 5, 6]), &return32());
+    let page = record_bytes(&with_address(0x15, IPV4), &booking_body());
+    let [.., process, in_addr] = expanded_tokens();
+    let mut token = token_with(process, IPV4.to_vec());
+    set(&mut token, 37, &32u32.to_be_bytes());
+    let mut short = token_with(in_addr, IPV6.to_vec());
+    short.drain(1..4);
+    let between = |token| joined(&[return32(), token, return32()]);
+    vec![
+        ("no13_header", joined(&[smallest(), header, smallest()])),
+        (
+            "no13_header_page",
+            joined(&[file_a(), with_one_byte_type(&page)]),
+        ),
+        (
+            "no13_token",
+            raw_record(&with_address(0x15, IPV6), &between(token)),
+        ),
+        (
+            "no13_token_page",
+            joined(&[file_a(), raw_record(&HEADER, &between(short))]),
+        ),
+    ]
+}
+
 /// An accepted trail of as many bytes as the program takes, and one more
 /// byte.
 fn sizes() -> Vec<(&'static str, Vec<u8>)> {
@@ -193,14 +302,27 @@ fn sizes() -> Vec<(&'static str, Vec<u8>)> {
 }
 
 /// The header of paper 01's cases.
-const HEADER: Header = Header {
+const HEADER: Header<'static> = Header {
     number: 0x14,
     version: 11,
     event: 72,
     modifier: 0,
+    address: &[],
     seconds: 1,
     nanoseconds: 2,
 };
+
+const IPV4: &[u8] = &[192, 0, 2, 7];
+const IPV6: &[u8] = &[0x20, 1, 0x0D, 0xB8, 0, 0, 0, 0, 0, 0, 0, 0, 0, 0, 0, 7];
+
+/// The header of the cases with another number and an address.
+fn with_address(number: u8, address: &'static [u8]) -> Header<'static> {
+    Header {
+        number,
+        address,
+        ..HEADER
+    }
+}
 
 /// The record of case 9.
 fn smallest() -> Vec<u8> {
@@ -224,7 +346,7 @@ fn booking() -> Vec<u8> {
     record_bytes(&booking_header(), &booking_body())
 }
 
-fn booking_header() -> Header {
+fn booking_header() -> Header<'static> {
     Header {
         event: 6_152,
         seconds: 1_763_200_000,
@@ -233,8 +355,9 @@ fn booking_header() -> Header {
     }
 }
 
-fn booking_body() -> Vec<u8> {
-    let subject = WriteToken::Subject32(Party {
+/// Who books.
+fn party<P, A>(port: P, address: A) -> Party<P, A> {
+    Party {
         audit: 1_000,
         effective_user: 1_000,
         effective_group: 100,
@@ -242,9 +365,25 @@ fn booking_body() -> Vec<u8> {
         real_group: 100,
         process: 4_242,
         session: 77,
-        port: 0,
-        address: 0x7F00_0001,
-    });
+        port,
+        address,
+    }
+}
+
+/// The tokens with an address, which is still to come.
+fn expanded_tokens() -> [WriteToken<'static>; 5] {
+    let (small, wide) = (party(0, &[][..]), party(1 << 40, &[][..]));
+    [
+        WriteToken::Subject32Ex(small),
+        WriteToken::Process32Ex(small),
+        WriteToken::Subject64Ex(wide),
+        WriteToken::Process64Ex(wide),
+        WriteToken::InAddrEx { address: &[] },
+    ]
+}
+
+fn booking_body() -> Vec<u8> {
+    let subject = WriteToken::Subject32(party(0, 0x7F00_0001));
     let path = WriteToken::Path { text: &[] };
     let text = WriteToken::Text { text: &[] };
     joined(&[

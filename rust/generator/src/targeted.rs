@@ -1,16 +1,21 @@
 //! Inputs aimed at one refusal number, or at several faults at once.
 
-use crate::damage::damage_body;
+use crate::damage::{damage_body, COUNTS};
+use crate::expanded::{any_body_fault, faulty_body, with_address_fault, AddressFault};
 use crate::good::{good_body, good_file, good_header, good_record, good_token, good_trail};
-use crate::layout::{header_size, raw_file, raw_record, set, shape, TOKEN_NUMBERS};
+use crate::layout::{head_size, is_expanded, is_narrow, least_size, raw_file, raw_record, set};
+use crate::layout::{shape, HEADER_NUMBERS, TOKEN_NUMBERS};
 use crate::rng::Rng;
 use crate::texts::{bad_name, bad_text, bad_text_token};
 use crate::values;
 use reference::State;
 
-/// A trail and a state whose reading is likely refused with `number`, 1 to
-/// 9. The state is fresh except for number 2, which no fresh state meets.
-/// Any other number gives a good trail.
+/// The numbers with which the reading of a trail is refused.
+pub const READ_REFUSALS: [u8; 10] = [1, 2, 3, 4, 5, 6, 7, 8, 9, 13];
+
+/// A trail and a state whose reading is likely refused with `number`, one of
+/// [`READ_REFUSALS`]. The state is fresh except for number 2, which no fresh
+/// state meets. Any other number gives a good trail.
 pub fn targeted(rng: &mut Rng, number: u8) -> (Vec<u8>, State) {
     let before = rng.below(3);
     let mut trail = good_trail(rng, before);
@@ -19,15 +24,17 @@ pub fn targeted(rng: &mut Rng, number: u8) -> (Vec<u8>, State) {
         3 => {
             let first = loop {
                 let byte = rng.u8();
-                if !matches!(byte, 0x11 | 0x14 | 0x74) {
+                if byte != 0x11 && !HEADER_NUMBERS.contains(&byte) {
                     break byte;
                 }
             };
             trail.push(first);
         }
+        4 if rng.chance(3) => trail.extend(bad_header(rng, AddressFault::Count)),
         4 => trail.extend(bad_count(rng)),
+        13 if rng.chance(3) => trail.extend(bad_header(rng, AddressFault::Type)),
         5 => trail.extend(bad_trailer(rng)),
-        6 | 7 => trail.extend(bad_token(rng, number)),
+        6 | 7 | 13 => trail.extend(bad_token(rng, number)),
         8 if rng.chance(3) => trail.extend(bad_name(rng)),
         8 => trail.extend(bad_token(rng, number)),
         9 => trail.extend(bad_fraction(rng)),
@@ -89,14 +96,14 @@ fn cut_item(rng: &mut Rng) -> Vec<u8> {
 /// A record whose count is out of bounds.
 fn bad_count(rng: &mut Rng) -> Vec<u8> {
     let mut record = good_record(rng);
-    let least = header_size(record[0]) as u32 + 7;
+    let least = least_size(record[0]) as u32;
     let count = match rng.below(6) {
         0 => least - 1,
         1 => 65_536,
         2 => rng.below(least as usize) as u32,
         3 => rng.u32() | 0x1_0000,
         4 => rng.pick(&[0, 1, 7, 18, 24, u32::MAX, 1 << 31]),
-        _ => rng.pick(&[0x1_0019, 0x0100_0019, 0x1_0021, 0x8000_0019]),
+        _ => least | rng.pick(&[0x1_0000, 0x0100_0000, 0x8000_0000]),
     };
     set(&mut record, 1, &count.to_be_bytes());
     if rng.chance(2) {
@@ -107,6 +114,12 @@ fn bad_count(rng: &mut Rng) -> Vec<u8> {
         record.truncate(rng.between(5, 12));
     }
     record
+}
+
+/// A record with an expanded header that is refused for this.
+fn bad_header(rng: &mut Rng, fault: AddressFault) -> Vec<u8> {
+    let header = rng.pick(&[0x15, 0x79]);
+    with_address_fault(rng, (header, fault))
 }
 
 /// A record without its trailer where the count says.
@@ -124,31 +137,39 @@ fn bad_trailer(rng: &mut Rng) -> Vec<u8> {
         }
         2 => {
             // One byte later than the count says.
-            let at = rng.between(header_size(record[0]), size - 7);
+            let at = rng.between(head_size(&record), size - 7);
             record.insert(at, rng.byte());
         }
         _ => {
-            let count = (size as u32).saturating_sub(1).max(33);
+            let less = size > least_size(record[0]);
+            let count = if less { size - 1 } else { size + 1 } as u32;
             set(&mut record, 1, &count.to_be_bytes());
         }
     }
     if rng.chance(3) {
-        // 9 would come later.
-        let end = header_size(record[0]);
+        // 9 would come later, and so would 13.
+        let end = head_size(&record);
         set(&mut record, end - 4, &[0xFF; 4]);
+        if is_expanded(record[0]) && rng.chance(2) {
+            set(&mut record, 10, &values::bad_type(rng).to_be_bytes());
+        }
     }
     record
 }
 
-/// A record with a body refused with 6, 7 or 8.
+/// A record with a body refused with 6, 7, 8 or 13.
 fn bad_token(rng: &mut Rng, number: u8) -> Vec<u8> {
     let header = good_header(rng);
     let body = bad_body(rng, number);
-    raw_record(&header, &body)
+    raw_record(&header.header(), &body)
 }
 
-/// A body refused with 6, 7 or 8.
+/// A body refused with 6, 7, 8 or 13.
 pub(crate) fn bad_body(rng: &mut Rng, number: u8) -> Vec<u8> {
+    if number == 13 || number == 7 && rng.chance(2) {
+        let (token, fault) = any_body_fault(rng, number);
+        return faulty_body(rng, token, fault);
+    }
     let mut body = Vec::new();
     for _ in 0..rng.below(3) {
         body.extend(good_token(rng));
@@ -161,7 +182,7 @@ pub(crate) fn bad_body(rng: &mut Rng, number: u8) -> Vec<u8> {
                     break byte;
                 }
             };
-            body.push(rng.pick(&[first, first, 0x11, 0x13, 0x14, 0x74]));
+            body.push(rng.pick(&[first, first, 0x11, 0x13, 0x14, 0x15, 0x74, 0x79]));
             let more = rng.below(30);
             body.extend(rng.bytes(more));
         }
@@ -225,59 +246,73 @@ fn bad_fraction(rng: &mut Rng) -> Vec<u8> {
         return file;
     }
     let mut header = good_header(rng);
-    let width = if header.number == 0x14 { 32 } else { 64 };
-    header.nanoseconds = values::over(rng, 999_999_999, width);
+    let narrow = is_narrow(header.fields.number);
+    let width = if narrow { 32 } else { 64 };
+    header.fields.nanoseconds = values::over(rng, 999_999_999, width);
     let mut body = good_body(rng);
     if rng.chance(3) {
         damage_body(rng, &mut body);
     }
-    raw_record(&header, &body)
+    raw_record(&header.header(), &body)
 }
 
 /// One item with several faults, so that the order of refusals shows.
 pub fn many_faults(rng: &mut Rng) -> Vec<u8> {
     let mut item = if rng.chance(3) {
-        let mut name = values::name(rng);
-        name.push(0);
-        if rng.chance(2) {
-            name = bad_text(rng);
-        }
-        let mut length = name.len() as u16;
-        if rng.chance(3) {
-            length = rng.pick(&[0, 1, 1_024, 1_025, u16::MAX]);
-        }
-        let mut micros = values::fraction(rng, 999_999);
-        if rng.chance(3) {
-            micros = values::over(rng, 999_999, 32) as u32;
-        }
-        raw_file(rng.u32(), micros, length, &name)
+        faulty_file(rng)
     } else {
-        let mut header = good_header(rng);
-        if rng.chance(3) {
-            let width = rng.pick(&[32, 64]);
-            header.nanoseconds = values::over(rng, 999_999_999, width);
-        }
-        let mut body = good_body(rng);
-        if rng.chance(2) {
-            damage_body(rng, &mut body);
-            body.push(rng.pick(&TOKEN_NUMBERS));
-        }
-        let mut record = raw_record(&header, &body);
-        if rng.chance(4) {
-            let count = rng.pick(&[0, 24, 25, 26, 32, 33, 34, 65_535, 65_536, u32::MAX]);
-            set(&mut record, 1, &count.to_be_bytes());
-        }
-        if rng.chance(3) {
-            let at = record.len() - 1 - rng.below(7);
-            record[at] ^= 1 << rng.below(8);
-        }
-        record
+        faulty_record(rng)
     };
     if rng.chance(4) {
         item.truncate(rng.between(1, item.len()));
     }
     if rng.chance(8) {
-        item[0] = rng.pick(&[0x11, 0x14, 0x74, 0x13, 0x23]);
+        item[0] = rng.pick(&[0x11, 0x14, 0x15, 0x74, 0x79, 0x13, 0x23]);
     }
     item
+}
+
+/// A file token with several faults.
+fn faulty_file(rng: &mut Rng) -> Vec<u8> {
+    let mut name = values::name(rng);
+    name.push(0);
+    if rng.chance(2) {
+        name = bad_text(rng);
+    }
+    let mut length = name.len() as u16;
+    if rng.chance(3) {
+        length = rng.pick(&[0, 1, 1_024, 1_025, u16::MAX]);
+    }
+    let mut micros = values::fraction(rng, 999_999);
+    if rng.chance(3) {
+        micros = values::over(rng, 999_999, 32) as u32;
+    }
+    raw_file(rng.u32(), micros, length, &name)
+}
+
+/// A record with several faults.
+fn faulty_record(rng: &mut Rng) -> Vec<u8> {
+    let mut header = good_header(rng);
+    if rng.chance(3) {
+        let width = rng.pick(&[32, 64]);
+        header.fields.nanoseconds = values::over(rng, 999_999_999, width);
+    }
+    if is_expanded(header.fields.number) && rng.chance(3) {
+        header.address = values::bad_address(rng);
+    }
+    let mut body = good_body(rng);
+    if rng.chance(2) {
+        damage_body(rng, &mut body);
+        body.push(rng.pick(&TOKEN_NUMBERS));
+    }
+    let mut record = raw_record(&header.header(), &body);
+    if rng.chance(4) {
+        let count = rng.pick(&COUNTS);
+        set(&mut record, 1, &count.to_be_bytes());
+    }
+    if rng.chance(3) {
+        let at = record.len() - 1 - rng.below(7);
+        record[at] ^= 1 << rng.below(8);
+    }
+    record
 }

@@ -10,7 +10,8 @@ use reference::{IpHeader, IpcPerm, Party, WriteToken};
 pub struct TokenArgs {
     /// The token with an empty varying part.
     pub fields: WriteToken<'static>,
-    /// Text without zero byte, opaque bytes, or strings with zero bytes.
+    /// Text without zero byte, opaque bytes, strings with zero bytes, or an
+    /// address.
     pub bytes: Vec<u8>,
     /// Groups.
     pub groups: Vec<u32>,
@@ -49,6 +50,11 @@ impl TokenArgs {
                 count,
                 strings: part,
             },
+            WriteToken::Subject32Ex(party) => WriteToken::Subject32Ex(at(party, part)),
+            WriteToken::Process32Ex(party) => WriteToken::Process32Ex(at(party, part)),
+            WriteToken::Subject64Ex(party) => WriteToken::Subject64Ex(at(party, part)),
+            WriteToken::Process64Ex(party) => WriteToken::Process64Ex(at(party, part)),
+            WriteToken::InAddrEx { .. } => WriteToken::InAddrEx { address: part },
             fields => fields,
         }
     }
@@ -60,7 +66,7 @@ impl TokenArgs {
             + match tail {
                 Tail::None => 0,
                 Tail::Text => self.bytes.len() + 1,
-                Tail::Bytes | Tail::Strings => self.bytes.len(),
+                Tail::Bytes | Tail::Strings | Tail::Address => self.bytes.len(),
                 Tail::Groups => 4 * self.groups.len(),
             }
     }
@@ -91,6 +97,21 @@ fn party<P>(rng: &mut Rng, port: P) -> Party<P> {
         session: rng.u32(),
         port,
         address: rng.u32(),
+    }
+}
+
+/// A party with another address.
+fn at<P, A, B>(party: Party<P, A>, address: B) -> Party<P, B> {
+    Party {
+        audit: party.audit,
+        effective_user: party.effective_user,
+        effective_group: party.effective_group,
+        real_user: party.real_user,
+        real_group: party.real_group,
+        process: party.process,
+        session: party.session,
+        port: party.port,
+        address,
     }
 }
 
@@ -168,6 +189,11 @@ pub fn good_args(rng: &mut Rng, number: u8) -> TokenArgs {
         },
         0x75 => WriteToken::Subject64(party64(rng)),
         0x77 => WriteToken::Process64(party64(rng)),
+        0x7A => WriteToken::Subject32Ex(at(party32(rng), EMPTY)),
+        0x7B => WriteToken::Process32Ex(at(party32(rng), EMPTY)),
+        0x7C => WriteToken::Subject64Ex(at(party64(rng), EMPTY)),
+        0x7D => WriteToken::Process64Ex(at(party64(rng), EMPTY)),
+        0x7E => WriteToken::InAddrEx { address: EMPTY },
         0x52 => WriteToken::Exit {
             status: rng.u32(),
             value: rng.u32(),
@@ -189,6 +215,7 @@ pub fn good_args(rng: &mut Rng, number: u8) -> TokenArgs {
             args.set_count(count);
             args.bytes = strings;
         }
+        Tail::Address => args.bytes = values::address(rng),
     }
     args
 }

@@ -1,9 +1,9 @@
-//! Texts, byte strings and times.
+//! Texts, byte strings, addresses and times.
 
 use crate::rng::Rng;
 
 /// Bytes that begin items and trailers.
-pub(crate) const LIKELY: [u8; 6] = [0x11, 0x13, 0x14, 0x74, 0xB1, 0x05];
+pub(crate) const LIKELY: [u8; 8] = [0x11, 0x13, 0x14, 0x15, 0x74, 0x79, 0xB1, 0x05];
 
 /// A usual length for a text or an opaque; large ones are rare.
 fn length(rng: &mut Rng) -> usize {
@@ -118,6 +118,48 @@ pub(crate) fn groups(rng: &mut Rng) -> Vec<u32> {
         _ => rng.below(17),
     };
     (0..count).map(|_| rng.u32()).collect()
+}
+
+/// An address of 4 or 16 bytes, of any kind or like the start of an item.
+pub(crate) fn address(rng: &mut Rng) -> Vec<u8> {
+    let length = rng.pick(&[4, 16]);
+    match rng.below(6) {
+        0 => vec![rng.pick(&[0, 0xFF]); length],
+        1 => letters(rng, length),
+        _ => rng.bytes(length),
+    }
+}
+
+/// An address that has neither 4 nor 16 bytes, mostly fewer than 20. The
+/// larger ones are 4 or 16 if their length is cut to one byte, or to two.
+pub(crate) fn bad_address(rng: &mut Rng) -> Vec<u8> {
+    let length = match rng.below(48) {
+        0 => rng.pick(&[65_540, 65_552]),
+        1 | 2 => rng.pick(&[260, 272]),
+        3 => rng.between(21, 100),
+        _ => rng.between(0, 20),
+    };
+    let more = match length {
+        4 | 16 => rng.pick(&[1, 2]),
+        _ => 0,
+    };
+    rng.bytes(length + more)
+}
+
+/// A type that is neither 4 nor 16: near them, with one of them in another
+/// byte or beside other bits, or any other.
+pub(crate) fn bad_type(rng: &mut Rng) -> u32 {
+    let good: u32 = rng.pick(&[4, 16]);
+    let any = rng.u32();
+    match rng.below(6) {
+        0 => good + 1,
+        1 => good - 1,
+        2 => good << (8 * rng.between(1, 3)),
+        3 => good | 1 << rng.between(5, 31),
+        4 => rng.pick(&[0, 1, 2, 6, 8, 20, 32, u32::MAX]),
+        _ if matches!(any, 4 | 16) => any + 1,
+        _ => any,
+    }
 }
 
 /// A version that fits its byte, often a usual one or at a bound.

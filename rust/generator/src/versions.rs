@@ -3,16 +3,20 @@
 
 use crate::calls::WriteArgs;
 use crate::good::{body_for, good_body, good_header_of};
+use crate::header_args::HeaderArgs;
+use crate::layout::{is_expanded, is_narrow, HEADER_NUMBERS};
 use crate::rng::Rng;
 use crate::targeted::bad_body;
 use crate::values;
-use reference::{walk_body, Header};
+use reference::walk_body;
 
 /// What is wrong beside the version.
 #[derive(Clone, Copy, Debug, PartialEq, Eq, PartialOrd, Ord)]
 pub enum Beside {
     /// Nothing.
     Nothing,
+    /// The address's length, which is told before all else.
+    Address,
     /// The record's length, which is told before the version.
     Length,
     /// The seconds are too large for their field.
@@ -25,37 +29,59 @@ pub enum Beside {
     Body(u8),
     /// The room.
     Room,
-    /// Two of these or more, the length not among them.
+    /// Two of these or more, neither the address nor the length among them.
     Several,
-    /// The length and others.
+    /// The length and others, the address not among them.
     LengthAndMore,
+    /// The address and others.
+    AddressAndMore,
 }
 
 use Beside::*;
 
-/// What can be wrong beside a version, by the header's number.
-pub const LARGE_VERSIONS: [(u8, Beside); 20] = [
-    (0x14, Nothing),
-    (0x14, Length),
-    (0x14, Seconds),
-    (0x14, Nanoseconds),
-    (0x14, Range),
-    (0x14, Body(6)),
-    (0x14, Body(7)),
-    (0x14, Body(8)),
-    (0x14, Room),
-    (0x14, Several),
-    (0x14, LengthAndMore),
-    (0x74, Nothing),
-    (0x74, Length),
-    (0x74, Range),
-    (0x74, Body(6)),
-    (0x74, Body(7)),
-    (0x74, Body(8)),
-    (0x74, Room),
-    (0x74, Several),
-    (0x74, LengthAndMore),
+/// All of them, for headers that can have them.
+const ALL: [Beside; 14] = [
+    Nothing,
+    Address,
+    Length,
+    Seconds,
+    Nanoseconds,
+    Range,
+    Body(6),
+    Body(7),
+    Body(8),
+    Body(13),
+    Room,
+    Several,
+    LengthAndMore,
+    AddressAndMore,
 ];
+
+/// Whether a record with this header can have this wrong.
+const fn can_be(number: u8, beside: Beside) -> bool {
+    match beside {
+        Seconds | Nanoseconds => is_narrow(number),
+        Address | AddressAndMore => is_expanded(number),
+        _ => true,
+    }
+}
+
+/// What can be wrong beside a version, by the header's number.
+pub const LARGE_VERSIONS: [(u8, Beside); 48] = {
+    let mut kinds = [(0, Nothing); 48];
+    let (mut at, mut pair) = (0, 0);
+    while pair < HEADER_NUMBERS.len() * ALL.len() {
+        let number = HEADER_NUMBERS[pair / ALL.len()];
+        let beside = ALL[pair % ALL.len()];
+        if can_be(number, beside) {
+            kinds[at] = (number, beside);
+            at += 1;
+        }
+        pair += 1;
+    }
+    assert!(at == kinds.len());
+    kinds
+};
 
 /// The header's number and what is wrong beside the version, where arguments
 /// are those of a record with a version over 255.
@@ -63,19 +89,21 @@ pub fn large_version(args: &WriteArgs, room: usize) -> Option<(u8, Beside)> {
     let WriteArgs::Record { header, body } = args else {
         return None;
     };
-    if header.version < 256 {
+    let fields = header.fields;
+    if fields.version < 256 {
         return None;
     }
     let size = args.size();
-    let most = if header.number == 0x14 {
+    let most = if is_narrow(fields.number) {
         u32::MAX.into()
     } else {
         u64::MAX
     };
     let mut all = Vec::new();
+    all.extend(header.is_misaddressed().then_some(Address));
     all.extend((size > 65_535).then_some(Length));
-    all.extend((header.seconds > most).then_some(Seconds));
-    all.extend(match header.nanoseconds {
+    all.extend((fields.seconds > most).then_some(Seconds));
+    all.extend(match fields.nanoseconds {
         ..=999_999_999 => None,
         nanoseconds if nanoseconds > most => Some(Nanoseconds),
         _ => Some(Range),
@@ -85,17 +113,18 @@ pub fn large_version(args: &WriteArgs, room: usize) -> Option<(u8, Beside)> {
     let beside = match all[..] {
         [] => Nothing,
         [one] => one,
+        [Address, ..] => AddressAndMore,
         [Length, ..] => LengthAndMore,
         _ => Several,
     };
-    Some((header.number, beside))
+    Some((fields.number, beside))
 }
 
 /// Arguments of a record with a version over 255, mostly with at most one
 /// thing else that is wrong.
 pub(crate) fn large_version_args(rng: &mut Rng, number: u8) -> WriteArgs {
     let mut header = good_header_of(rng, number);
-    header.version = values::over(rng, 255, 16) as u16;
+    header.fields.version = values::over(rng, 255, 16) as u16;
     let mut body = good_body(rng);
     let times = rng.pick(&[0, 1, 1, 1, 1, 2]);
     for _ in 0..times {
@@ -105,18 +134,19 @@ pub(crate) fn large_version_args(rng: &mut Rng, number: u8) -> WriteArgs {
 }
 
 /// Makes one thing else wrong. Seconds and nanoseconds of 33 bits or more fit
-/// a header64.
-fn spoil_more(rng: &mut Rng, header: &mut Header, body: &mut Vec<u8>) {
-    match rng.below(8) {
-        0 => header.seconds = values::over(rng, u32::MAX.into(), 64),
-        1 => header.nanoseconds = values::over(rng, u32::MAX.into(), 64),
-        2 => header.nanoseconds = values::over(rng, 999_999_999, 32),
+/// times of 8 bytes.
+fn spoil_more(rng: &mut Rng, header: &mut HeaderArgs, body: &mut Vec<u8>) {
+    match rng.below(10) {
+        0 => header.fields.seconds = values::over(rng, u32::MAX.into(), 64),
+        1 => header.fields.nanoseconds = values::over(rng, u32::MAX.into(), 64),
+        2 => header.fields.nanoseconds = values::over(rng, 999_999_999, 32),
         3 | 4 => {
             let size = rng.pick(&[65_535, 65_536, 65_537, 65_544]);
-            *body = body_for(rng, header.number, size);
+            *body = body_for(rng, header.size(), size);
         }
+        5 if is_expanded(header.fields.number) => header.address = values::bad_address(rng),
         _ => {
-            let refused = rng.pick(&[6, 7, 8]);
+            let refused = rng.pick(&[6, 7, 8, 13]);
             *body = bad_body(rng, refused);
         }
     }

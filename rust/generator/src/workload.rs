@@ -6,21 +6,39 @@ use crate::token_args::good_args;
 use reference::{Header, WriteToken};
 use std::ops::RangeInclusive;
 
+/// What a workload says of a record: its header's number, the address in it,
+/// and its body.
+struct Parts {
+    number: u8,
+    address: Vec<u8>,
+    body: Vec<u8>,
+}
+
+/// A record whose header has no address.
+fn plain(number: u8, body: Vec<u8>) -> Parts {
+    Parts {
+        number,
+        address: Vec::new(),
+        body,
+    }
+}
+
 /// Records of one kind until the trail has `bytes` bytes or more.
-fn trail_of(seed: u64, bytes: usize, mut record: impl FnMut(&mut Rng) -> (u8, Vec<u8>)) -> Vec<u8> {
+fn trail_of(seed: u64, bytes: usize, mut record: impl FnMut(&mut Rng) -> Parts) -> Vec<u8> {
     let mut rng = Rng::new(seed);
     let mut trail = Vec::with_capacity(bytes.saturating_add(65_535));
     while trail.len() < bytes {
-        let (number, body) = record(&mut rng);
+        let parts = record(&mut rng);
         let header = Header {
-            number,
+            number: parts.number,
             version: 11,
             event: rng.below(45_000) as u16,
             modifier: 0,
+            address: &parts.address,
             seconds: rng.between(1_600_000_000, 1_900_000_000) as u64,
             nanoseconds: rng.below(1_000_000_000) as u64,
         };
-        trail.extend(record_bytes(&header, &body));
+        trail.extend(record_bytes(&header, &parts.body));
     }
     trail
 }
@@ -52,23 +70,41 @@ pub fn small_records(bytes: usize) -> Vec<u8> {
                 body.extend(new);
             }
         }
-        (number, body)
+        plain(number, body)
     })
+}
+
+/// The body of a usual record: a subject with this number, path, text,
+/// return32.
+fn usual_body(rng: &mut Rng, subject: u8) -> Vec<u8> {
+    let path_length = rng.between(29, 119);
+    let text_length = rng.between(44, 104);
+    let mut path = printable(rng, path_length);
+    path[0] = b'/';
+    let text = printable(rng, text_length);
+    let mut body = token_bytes(&good_args(rng, subject));
+    body.extend(token_with(WriteToken::Path { text: &[] }, path));
+    body.extend(token_with(WriteToken::Text { text: &[] }, text));
+    body.extend(token_bytes(&good_args(rng, 0x27)));
+    body
 }
 
 /// Usual records, 150 to 300 bytes each: subject32, path, text, return32.
 pub fn usual_records(bytes: usize) -> Vec<u8> {
-    trail_of(2, bytes, |rng| {
-        let path_length = rng.between(29, 119);
-        let text_length = rng.between(44, 104);
-        let mut path = printable(rng, path_length);
-        path[0] = b'/';
-        let text = printable(rng, text_length);
-        let mut body = token_bytes(&good_args(rng, 0x24));
-        body.extend(token_with(WriteToken::Path { text: &[] }, path));
-        body.extend(token_with(WriteToken::Text { text: &[] }, text));
-        body.extend(token_bytes(&good_args(rng, 0x27)));
-        (0x14, body)
+    trail_of(2, bytes, |rng| plain(0x14, usual_body(rng, 0x24)))
+}
+
+/// Usual records with expanded headers and subjects, of either width and
+/// either length of an address: 160 to 350 bytes each.
+pub fn expanded_records(bytes: usize) -> Vec<u8> {
+    trail_of(7, bytes, |rng| {
+        let length = rng.pick(&[4, 16]);
+        let subject = rng.pick(&[0x7A, 0x7C]);
+        Parts {
+            number: rng.pick(&[0x15, 0x79]),
+            address: rng.bytes(length),
+            body: usual_body(rng, subject),
+        }
     })
 }
 
@@ -90,7 +126,7 @@ pub fn large_exec(bytes: usize) -> Vec<u8> {
             count,
             strings: &[],
         };
-        (0x14, token_with(fields, strings))
+        plain(0x14, token_with(fields, strings))
     })
 }
 
@@ -118,7 +154,7 @@ pub fn exec_records(
         } else {
             |count, strings| WriteToken::ExecArgs { count, strings }
         };
-        (0x14, token_with(strings_of(count, &[]), strings))
+        plain(0x14, token_with(strings_of(count, &[]), strings))
     })
 }
 
@@ -128,7 +164,7 @@ pub fn text_records(bytes: usize, lengths: RangeInclusive<usize>) -> Vec<u8> {
     trail_of(6, bytes, |rng| {
         let length = rng.between(*lengths.start(), *lengths.end());
         let text = printable(rng, length - 1);
-        (0x14, token_with(WriteToken::Text { text: &[] }, text))
+        plain(0x14, token_with(WriteToken::Text { text: &[] }, text))
     })
 }
 
@@ -136,6 +172,6 @@ pub fn text_records(bytes: usize, lengths: RangeInclusive<usize>) -> Vec<u8> {
 pub fn large_opaque(bytes: usize) -> Vec<u8> {
     trail_of(4, bytes, |rng| {
         let bytes = rng.bytes(60_000);
-        (0x14, token_with(WriteToken::Opaque { bytes: &[] }, bytes))
+        plain(0x14, token_with(WriteToken::Opaque { bytes: &[] }, bytes))
     })
 }

@@ -14,9 +14,14 @@ fn to_write<'a>(token: &Token<'a>, groups: &'a mut Vec<u32>) -> WriteToken<'a> {
         Token::Process32(party) => WriteToken::Process32(party),
         Token::Subject64(party) => WriteToken::Subject64(party),
         Token::Process64(party) => WriteToken::Process64(party),
+        Token::Subject32Ex(party) => WriteToken::Subject32Ex(party),
+        Token::Process32Ex(party) => WriteToken::Process32Ex(party),
+        Token::Subject64Ex(party) => WriteToken::Subject64Ex(party),
+        Token::Process64Ex(party) => WriteToken::Process64Ex(party),
         Token::Return32 { error, value } => WriteToken::Return32 { error, value },
         Token::Return64 { error, value } => WriteToken::Return64 { error, value },
         Token::InAddr { address } => WriteToken::InAddr { address },
+        Token::InAddrEx { address } => WriteToken::InAddrEx { address },
         Token::Ip(ip) => WriteToken::Ip(ip),
         Token::Iport { port } => WriteToken::Iport { port },
         Token::Arg32 {
@@ -52,9 +57,38 @@ fn to_write<'a>(token: &Token<'a>, groups: &'a mut Vec<u32>) -> WriteToken<'a> {
     }
 }
 
+/// How often tokens and headers of each number came, by the length of the
+/// address, which is 0 for those that have none.
+#[derive(Debug, Default)]
+struct Kinds(BTreeMap<(u8, usize), usize>);
+
+impl Kinds {
+    fn count(&mut self, number: u8, address: usize) {
+        *self.0.entry((number, address)).or_default() += 1;
+    }
+
+    /// Asserts that each kind came often, with either address where it has
+    /// one, and nothing else came.
+    fn often(&self) {
+        let mut left = self.0.clone();
+        for number in TOKEN_NUMBERS.into_iter().chain(HEADER_NUMBERS) {
+            let addresses = match number {
+                0x15 | 0x79 | 0x7A..=0x7E => &[4, 16][..],
+                _ => &[0],
+            };
+            for &address in addresses {
+                let times = left.remove(&(number, address)).unwrap_or(0);
+                println!("{number:02X}, address of {address}: {times}");
+                assert!(times >= 100, "{number:02X}, {address}: {times}");
+            }
+        }
+        assert!(left.is_empty(), "{left:?}");
+    }
+}
+
 /// Reads a body that is good, writes each token again and compares the
 /// bytes. Counts the kinds.
-fn tokens_again(body: &[u8], kinds: &mut BTreeMap<u8, usize>) -> usize {
+fn tokens_again(body: &[u8], kinds: &mut Kinds) -> usize {
     let mut place = 0;
     let mut tokens = 0;
     loop {
@@ -71,7 +105,9 @@ fn tokens_again(body: &[u8], kinds: &mut BTreeMap<u8, usize>) -> usize {
                 let again = to_write(&token, &mut groups);
                 assert_eq!(write_token(&mut bytes, &again), Ok(size));
                 assert_eq!(bytes, body[place..place + size]);
-                *kinds.entry(token.number()).or_default() += 1;
+                let number = token.number();
+                let expanded = EXPANDED_NUMBERS.contains(&number);
+                kinds.count(number, if expanded { length } else { 0 });
                 tokens += 1;
                 place += size;
             }
@@ -82,7 +118,7 @@ fn tokens_again(body: &[u8], kinds: &mut BTreeMap<u8, usize>) -> usize {
 }
 
 /// Writes an accepted item again and compares the bytes.
-fn item_again(trail: &[u8], place: usize, item: &Item<'_>, kinds: &mut BTreeMap<u8, usize>) {
+fn item_again(trail: &[u8], place: usize, item: &Item<'_>, kinds: &mut Kinds) {
     let size = item.size();
     let mut bytes = vec![0; size];
     let written = match item {
@@ -99,6 +135,8 @@ fn item_again(trail: &[u8], place: usize, item: &Item<'_>, kinds: &mut BTreeMap<
             ..
         } => {
             assert_eq!(tokens_again(body, kinds), *tokens);
+            kinds.count(header.number, header.address.len());
+            assert_eq!(head_size(&trail[place..]), size - body.len() - 7);
             write_record(&mut bytes, header, body)
         }
     };
@@ -109,7 +147,7 @@ fn item_again(trail: &[u8], place: usize, item: &Item<'_>, kinds: &mut BTreeMap<
 #[test]
 fn good_trails_are_accepted_and_written_again() {
     let mut rng = Rng::new(1);
-    let mut kinds = BTreeMap::new();
+    let mut kinds = Kinds::default();
     let (mut records, mut files, mut empty) = (0, 0, 0);
     for _ in 0..2_000 {
         let trail = good_trail(&mut rng, 4);
@@ -126,16 +164,14 @@ fn good_trails_are_accepted_and_written_again() {
         }
     }
     assert!(records > 4_000 && files > 1_000 && empty > 500);
-    for number in TOKEN_NUMBERS {
-        assert!(kinds[&number] >= 100, "token {number:02X}");
-    }
+    kinds.often();
 }
 
 #[test]
 fn each_number_and_each_kind_comes_out_often() {
     let mut rng = Rng::new(2);
     let mut numbers = BTreeMap::new();
-    let mut kinds = BTreeMap::new();
+    let mut kinds = Kinds::default();
     let mut ends = 0;
     for _ in 0..20_000 {
         let (trail, state) = any_input(&mut rng);
@@ -152,22 +188,19 @@ fn each_number_and_each_kind_comes_out_often() {
             }
         }
     }
-    println!("end {ends}, refusals {numbers:?}, kinds {kinds:02X?}");
+    println!("end {ends}, refusals {numbers:?}");
     assert!(ends >= 1_000);
-    for number in 1..=9 {
+    for number in READ_REFUSALS {
         assert!(numbers[&number] >= 100, "number {number}");
     }
-    assert_eq!(numbers.len(), 9);
-    for number in TOKEN_NUMBERS {
-        assert!(kinds[&number] >= 100, "token {number:02X}");
-    }
-    assert_eq!(kinds.len(), 20);
+    assert_eq!(numbers.len(), READ_REFUSALS.len());
+    kinds.often();
 }
 
 #[test]
 fn targeted_inputs_mostly_hit() {
     let mut rng = Rng::new(3);
-    for number in 1..=9 {
+    for number in READ_REFUSALS {
         let mut hits = 0;
         for _ in 0..1_000 {
             let (trail, state) = targeted(&mut rng, number);
@@ -190,7 +223,7 @@ fn faults_together_reach_all_numbers_but_2() {
         }
     }
     println!("{numbers:?}");
-    for number in [1, 3, 4, 5, 6, 7, 8, 9] {
+    for number in [1, 3, 4, 5, 6, 7, 8, 9, 13] {
         assert!(numbers[&number] >= 50, "number {number}");
     }
 }
@@ -228,10 +261,10 @@ fn bodies_walked_and_read_token_by_token_agree() {
         }
     }
     println!("{numbers:?}");
-    for number in [0, 6, 7, 8] {
+    for number in [0, 6, 7, 8, 13] {
         assert!(numbers[&number] >= 1_000, "number {number}");
     }
-    assert_eq!(numbers.len(), 4);
+    assert_eq!(numbers.len(), 5);
 }
 
 #[test]

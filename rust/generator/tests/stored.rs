@@ -50,9 +50,12 @@ fn names_tell_the_refusal() {
         let output = String::from_utf8(output).expect("a listing is text");
         let last = output.lines().last().expect("a listing has lines");
         let start = match name.strip_prefix("no") {
-            Some(rest) => format!("X\t{}\t", &rest[..1]),
+            Some(rest) => {
+                let number = rest.split('_').next().expect("a number");
+                format!("X\t{number}\t")
+            }
             None => match name {
-                "empty" | "mixed" | "cut_13" | "size_65536" => "E\t".into(),
+                "empty" | "mixed" | "cut_13" | "expanded" | "size_65536" => "E\t".into(),
                 "size_65537" => "X\t12\t65536\t0".into(),
                 _ => "X\t1\t".into(),
             },

@@ -78,7 +78,7 @@ fn often<K: Ord + Debug>(times: &Times<K>, kinds: impl IntoIterator<Item = K>) {
 struct Seen {
     told: Times<(u8, Spoilt)>,
     tokens: Times<(u8, &'static str)>,
-    places: Times<(usize, &'static str)>,
+    places: Times<(u8, &'static str)>,
     names: Times<&'static str>,
     lengths: Times<usize>,
 }
@@ -94,13 +94,12 @@ impl Seen {
         }
     }
 
-    /// Counts the record that a trail begins with, whose header has `head`
-    /// bytes.
-    fn record(&mut self, trail: &[u8], head: usize) {
+    /// Counts the record that a trail begins with.
+    fn record(&mut self, trail: &[u8]) {
         let end = length_at(trail, 3) - 7;
-        let (number, how, place) = bad_token(&trail[head..end]);
+        let (number, how, place) = bad_token(&trail[head_size(trail)..end]);
         *self.tokens.entry((number, how)).or_insert(0) += 1;
-        *self.places.entry((head, place)).or_insert(0) += 1;
+        *self.places.entry((trail[0], place)).or_insert(0) += 1;
     }
 }
 
@@ -119,16 +118,15 @@ fn spoilt_texts_of_every_kind() {
         *seen.told.entry(kind).or_insert(0) += 1;
         match trail[start] {
             0x11 => seen.file(&trail[start..]),
-            0x14 => seen.record(&trail[start..], 18),
-            _ => seen.record(&trail[start..], 26),
+            _ => seen.record(&trail[start..]),
         }
     }
     println!("{:02X?}", (&seen.told, &seen.tokens, &seen.places));
     let each = |number| HOW.map(|how| (number, how));
     often(&seen.tokens, TEXT_NUMBERS.into_iter().flat_map(each));
-    for head in [18, 26] {
+    for header in HEADER_NUMBERS {
         let places = ["first", "middle", "last", "only"];
-        often(&seen.places, places.map(|place| (head, place)));
+        often(&seen.places, places.map(|place| (header, place)));
     }
     often(&seen.names, HOW);
     often(&seen.lengths, [0, 1_024, 1_025, 65_535]);

@@ -5,7 +5,8 @@ use generator::*;
 use reference::*;
 use std::collections::BTreeMap;
 
-/// A version over 255 is told after the record's length and before all else.
+/// A version over 255 is told after the address's and the record's length, and
+/// before all else.
 #[test]
 fn large_versions_with_all_else_that_is_wrong() {
     let mut rng = Rng::new(31);
@@ -16,6 +17,7 @@ fn large_versions_with_all_else_that_is_wrong() {
             continue;
         };
         let number = match kind.1 {
+            Beside::Address | Beside::AddressAndMore => 13,
             Beside::Length | Beside::LengthAndMore => 4,
             _ => 11,
         };
@@ -42,7 +44,7 @@ fn versions_of_good_headers() {
     let mut rng = Rng::new(32);
     let mut times = [0; 256];
     for _ in 0..40_000 {
-        times[usize::from(good_header(&mut rng).version)] += 1;
+        times[usize::from(good_header(&mut rng).fields.version)] += 1;
     }
     assert!(times.iter().all(|&times| times > 0));
     assert!([0, 11, 255].iter().all(|&edge| times[edge] > 4_000));
@@ -50,7 +52,7 @@ fn versions_of_good_headers() {
 
 /// What item the reader must find in a record of the manual page: refused with
 /// 9 or for its body, or accepted with other fields.
-fn found<'a>(header: Header, body: &'a [u8]) -> Answer<'a> {
+fn found<'a>(header: Header<'a>, body: &'a [u8]) -> Answer<'a> {
     let head = if header.number == 0x14 { 18 } else { 26 };
     let refused = |number, place| {
         Answer::Refused(Refusal {
@@ -76,7 +78,7 @@ fn found<'a>(header: Header, body: &'a [u8]) -> Answer<'a> {
 /// The answer for a record of the manual page; 0 where it is accepted. Its
 /// count and trailer stand where they stood, so that 3, 4 and 5 never come,
 /// and nothing is short once it is whole.
-fn answer(header: &Header, body: &[u8]) -> u8 {
+fn answer(header: &Header<'_>, body: &[u8]) -> u8 {
     let record = page_record(header, body);
     let (moved, rest) = page_found(header, body);
     assert_eq!(record, raw_record(&moved, &rest));
@@ -86,7 +88,7 @@ fn answer(header: &Header, body: &[u8]) -> u8 {
         Answer::Refused(refusal) => refusal.number,
         _ => 0,
     };
-    assert!(matches!(number, 0 | 6..=9), "{number}");
+    assert!(matches!(number, 0 | 6..=9 | 13), "{number}");
     // The last byte of the seconds alone decides on 9.
     let low = header.seconds as u8;
     let late = if header.number == 0x14 {
@@ -99,7 +101,7 @@ fn answer(header: &Header, body: &[u8]) -> u8 {
 }
 
 /// How often each answer came for records with these headers and bodies.
-fn answers(records: impl Iterator<Item = (Header, Vec<u8>)>) -> BTreeMap<(u8, u8), usize> {
+fn answers<'a>(records: impl Iterator<Item = (Header<'a>, Vec<u8>)>) -> BTreeMap<(u8, u8), usize> {
     let mut times = BTreeMap::new();
     for (header, body) in records {
         let number = answer(&header, &body);
@@ -109,7 +111,7 @@ fn answers(records: impl Iterator<Item = (Header, Vec<u8>)>) -> BTreeMap<(u8, u8
 }
 
 /// Headers and bodies of the records of a trail.
-fn records(trail: &[u8]) -> Vec<(Header, Vec<u8>)> {
+fn records(trail: &[u8]) -> Vec<(Header<'_>, Vec<u8>)> {
     let items = reading(trail, State::default()).0.into_iter();
     items
         .filter_map(|(_, item)| match item {
@@ -143,10 +145,8 @@ fn records_of_the_manual_page() {
 fn largest_record_of_the_manual_page() {
     let mut rng = Rng::new(35);
     for number in [0x14, 0x74] {
-        let header = Header {
-            number,
-            ..good_header(&mut rng)
-        };
+        let (header, _) = page_fields(&mut rng, false);
+        let header = Header { number, ..header };
         let empty = page_record(&header, b"").len();
         let mut body = vec![0x29, 0, 0];
         body.resize(65_535 - empty, 0xA5);

@@ -2,6 +2,7 @@
 
 use generator::*;
 use reference::*;
+use std::collections::BTreeMap;
 
 /// Reads a whole trail that is accepted and holds records only.
 fn records(trail: &[u8]) -> Vec<Item<'_>> {
@@ -38,10 +39,38 @@ fn sizes_are_as_named() {
     assert_eq!(small_records(0), b"");
 }
 
+/// Both headers and both subjects, each with either address.
+#[test]
+fn expanded_records_of_all_kinds() {
+    let expanded = expanded_records(100_000);
+    assert!((100_000..100_347).contains(&expanded.len()));
+    let mut kinds = BTreeMap::new();
+    for item in records(&expanded) {
+        assert!((161..=347).contains(&item.size()));
+        let Item::Record {
+            header,
+            body,
+            tokens: 4,
+            ..
+        } = item
+        else {
+            panic!("{item:?}");
+        };
+        let TokenAnswer::Token { length, .. } = token_at(body, 0) else {
+            panic!("no subject");
+        };
+        let kind = (header.number, header.address.len(), body[0], length);
+        *kinds.entry(kind).or_insert(0) += 1;
+    }
+    assert_eq!(kinds.len(), 16);
+    assert!(kinds.values().all(|&times| times > 5), "{kinds:?}");
+}
+
 #[test]
 fn same_seed_same_bytes() {
     assert_eq!(small_records(10_000), small_records(10_000));
     assert_eq!(usual_records(10_000), usual_records(10_000));
+    assert_eq!(expanded_records(10_000), expanded_records(10_000));
     let trail = |seed| any_input(&mut Rng::new(seed));
     for seed in 0..200 {
         assert_eq!(trail(seed), trail(seed));

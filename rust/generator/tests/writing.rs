@@ -4,6 +4,28 @@ use generator::*;
 use reference::*;
 use std::collections::BTreeMap;
 
+/// Which writers answer with which refusals; 0 is none.
+const ANSWERS: [(&str, u8); 18] = [
+    ("token", 0),
+    ("token", 8),
+    ("token", 10),
+    ("token", 11),
+    ("token", 13),
+    ("file", 0),
+    ("file", 8),
+    ("file", 9),
+    ("file", 10),
+    ("record", 0),
+    ("record", 4),
+    ("record", 6),
+    ("record", 7),
+    ("record", 8),
+    ("record", 9),
+    ("record", 10),
+    ("record", 11),
+    ("record", 13),
+];
+
 #[test]
 fn calls_are_good_or_refused_in_every_way() {
     let mut rng = Rng::new(1);
@@ -36,27 +58,10 @@ fn calls_are_good_or_refused_in_every_way() {
         }
     }
     println!("{numbers:?}");
-    for expected in [
-        ("token", 0),
-        ("token", 8),
-        ("token", 10),
-        ("token", 11),
-        ("file", 0),
-        ("file", 8),
-        ("file", 9),
-        ("file", 10),
-        ("record", 0),
-        ("record", 4),
-        ("record", 6),
-        ("record", 7),
-        ("record", 8),
-        ("record", 9),
-        ("record", 10),
-        ("record", 11),
-    ] {
+    for expected in ANSWERS {
         assert!(numbers[&expected] >= 20, "{expected:?}");
     }
-    assert_eq!(numbers.len(), 16);
+    assert_eq!(numbers.len(), ANSWERS.len());
 }
 
 /// Where the zero byte stands that a text to be written is refused for.
@@ -107,27 +112,7 @@ fn spoilt_arguments_of_every_kind() {
 /// What was written reads back as what was given.
 fn read_back(args: &WriteArgs, bytes: &[u8]) {
     match args {
-        WriteArgs::Token(args) => {
-            assert_eq!(walk_body(bytes), Ok(1));
-            let TokenAnswer::Token { token, .. } = token_at(bytes, 0) else {
-                panic!("no token");
-            };
-            assert_eq!(token.number(), args.fields.number());
-            match token {
-                Token::Path { text }
-                | Token::Text { text }
-                | Token::Arg32 { text, .. }
-                | Token::Arg64 { text, .. } => assert_eq!(text, args.bytes),
-                Token::Opaque { bytes: part }
-                | Token::ExecArgs { strings: part, .. }
-                | Token::ExecEnv { strings: part, .. } => assert_eq!(part, args.bytes),
-                Token::NewGroups { groups } => {
-                    let raw: Vec<u8> = args.groups.iter().flat_map(|g| g.to_be_bytes()).collect();
-                    assert_eq!(groups, raw);
-                }
-                _ => {}
-            }
-        }
+        WriteArgs::Token(args) => token_back(args, bytes),
         WriteArgs::File {
             seconds,
             microseconds,
@@ -144,11 +129,41 @@ fn read_back(args: &WriteArgs, bytes: &[u8]) {
         WriteArgs::Record { header, body } => {
             let item = Item::Record {
                 size: bytes.len(),
-                header: *header,
+                header: header.header(),
                 body,
                 tokens: walk_body(body).unwrap(),
             };
             assert_eq!(item_at(bytes, 0), Answer::Item(item));
         }
+    }
+}
+
+/// The same of a token.
+fn token_back(args: &TokenArgs, bytes: &[u8]) {
+    assert_eq!(walk_body(bytes), Ok(1));
+    let TokenAnswer::Token { token, .. } = token_at(bytes, 0) else {
+        panic!("no token");
+    };
+    assert_eq!(token.number(), args.fields.number());
+    match token {
+        Token::Path { text }
+        | Token::Text { text }
+        | Token::Arg32 { text, .. }
+        | Token::Arg64 { text, .. } => assert_eq!(text, args.bytes),
+        Token::Opaque { bytes: part }
+        | Token::ExecArgs { strings: part, .. }
+        | Token::ExecEnv { strings: part, .. }
+        | Token::InAddrEx { address: part } => assert_eq!(part, args.bytes),
+        Token::Subject32Ex(party) | Token::Process32Ex(party) => {
+            assert_eq!(party.address, args.bytes);
+        }
+        Token::Subject64Ex(party) | Token::Process64Ex(party) => {
+            assert_eq!(party.address, args.bytes);
+        }
+        Token::NewGroups { groups } => {
+            let raw: Vec<u8> = args.groups.iter().flat_map(|g| g.to_be_bytes()).collect();
+            assert_eq!(groups, raw);
+        }
+        _ => {}
     }
 }

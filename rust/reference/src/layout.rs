@@ -1,9 +1,11 @@
-//! Token numbers, sizes and bounds (paper 01, 'Layouts').
+//! Token numbers, sizes and bounds (paper 01, 'Layouts'; paper 02, P5).
 
 pub(crate) const FILE: u8 = 0x11;
 pub(crate) const TRAILER: u8 = 0x13;
 pub(crate) const HEADER32: u8 = 0x14;
+pub(crate) const HEADER32_EX: u8 = 0x15;
 pub(crate) const HEADER64: u8 = 0x74;
+pub(crate) const HEADER64_EX: u8 = 0x79;
 
 pub(crate) const PATH: u8 = 0x23;
 pub(crate) const SUBJECT32: u8 = 0x24;
@@ -25,13 +27,26 @@ pub(crate) const ARG64: u8 = 0x71;
 pub(crate) const RETURN64: u8 = 0x72;
 pub(crate) const SUBJECT64: u8 = 0x75;
 pub(crate) const PROCESS64: u8 = 0x77;
+pub(crate) const SUBJECT32_EX: u8 = 0x7A;
+pub(crate) const PROCESS32_EX: u8 = 0x7B;
+pub(crate) const SUBJECT64_EX: u8 = 0x7C;
+pub(crate) const PROCESS64_EX: u8 = 0x7D;
+pub(crate) const IN_ADDR_EX: u8 = 0x7E;
 
 /// Size of a file token without its name.
 pub(crate) const FILE_FIXED: usize = 11;
-/// Size of a header with 4-byte times.
-pub(crate) const HEADER32_SIZE: usize = 18;
-/// Size of a header with 8-byte times.
-pub(crate) const HEADER64_SIZE: usize = 26;
+/// Size of a header's fields up to the modifier.
+pub(crate) const KINDS_SIZE: usize = 10;
+/// Size of an address's type.
+pub(crate) const TYPE_SIZE: usize = 4;
+/// Size of the smaller address.
+pub(crate) const IPV4_SIZE: usize = 4;
+/// Size of the larger address.
+pub(crate) const IPV6_SIZE: usize = 16;
+/// Size of both times of a header with 4 bytes for each.
+pub(crate) const TIMES32_SIZE: usize = 8;
+/// Size of both times of a header with 8 bytes for each.
+pub(crate) const TIMES64_SIZE: usize = 16;
 /// Size of the trailer.
 pub(crate) const TRAILER_SIZE: usize = 7;
 /// Largest size of a record.

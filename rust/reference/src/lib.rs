@@ -1,5 +1,5 @@
 //! A second reader and writer of BSM audit trails, written from paper 01 and
-//! the landed requests of paper 02 (P1 to P3) alone. It is there to be compared
+//! the landed requests of paper 02 (P1 to P3, P5) alone. It is there to be compared
 //! with another implementation, and to be its baseline for speed.
 //!
 //! Reading allocates nothing and hands back parts of the lent buffer. Every
@@ -8,6 +8,7 @@
 #![forbid(unsafe_code)]
 #![warn(missing_docs)]
 
+mod address;
 mod back;
 mod fields;
 mod item;

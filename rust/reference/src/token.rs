@@ -1,12 +1,12 @@
-//! The twenty body tokens, as read and as given to the writer
-//! (paper 01, 'Layouts').
+//! The twenty-five body tokens, as read and as given to the writer
+//! (paper 01, 'Layouts'; paper 02, P5).
 
 use crate::layout::*;
 
-/// Who acts (subject) or is acted on (process). `P` is the port's type,
-/// `u32` or `u64`.
+/// Who acts (subject) or is acted on (process). `P` holds the port, `u32` or
+/// `u64`, and `A` the address: `u32`, or bytes in an expanded token.
 #[derive(Clone, Copy, Debug, PartialEq, Eq)]
-pub struct Party<P> {
+pub struct Party<P, A = u32> {
     /// Audit user.
     pub audit: u32,
     /// Effective user.
@@ -24,7 +24,7 @@ pub struct Party<P> {
     /// Terminal port.
     pub port: P,
     /// Terminal machine address.
-    pub address: u32,
+    pub address: A,
 }
 
 /// The fields of an ip token.
@@ -100,6 +100,14 @@ macro_rules! token_enum {
             Subject64(Party<u64>),
             /// 77, process64.
             Process64(Party<u64>),
+            /// 7A, subject32_ex.
+            Subject32Ex(Party<u32, &'a [u8]>),
+            /// 7B, process32_ex.
+            Process32Ex(Party<u32, &'a [u8]>),
+            /// 7C, subject64_ex.
+            Subject64Ex(Party<u64, &'a [u8]>),
+            /// 7D, process64_ex.
+            Process64Ex(Party<u64, &'a [u8]>),
             /// 27, return32.
             Return32 {
                 /// Error.
@@ -118,6 +126,11 @@ macro_rules! token_enum {
             InAddr {
                 /// Address.
                 address: u32,
+            },
+            /// 7E, in_addr_ex.
+            InAddrEx {
+                /// Address; one that was read has 4 or 16 bytes.
+                address: &'a [u8],
             },
             /// 2B, ip.
             Ip(IpHeader),
@@ -190,9 +203,14 @@ macro_rules! token_enum {
                     Self::Process32(_) => PROCESS32,
                     Self::Subject64(_) => SUBJECT64,
                     Self::Process64(_) => PROCESS64,
+                    Self::Subject32Ex(_) => SUBJECT32_EX,
+                    Self::Process32Ex(_) => PROCESS32_EX,
+                    Self::Subject64Ex(_) => SUBJECT64_EX,
+                    Self::Process64Ex(_) => PROCESS64_EX,
                     Self::Return32 { .. } => RETURN32,
                     Self::Return64 { .. } => RETURN64,
                     Self::InAddr { .. } => IN_ADDR,
+                    Self::InAddrEx { .. } => IN_ADDR_EX,
                     Self::Ip(_) => IP,
                     Self::Iport { .. } => IPORT,
                     Self::Arg32 { .. } => ARG32,

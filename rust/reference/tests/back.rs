@@ -98,6 +98,7 @@ fn a_record_in_an_opaque() {
         version: 11,
         event: 72,
         modifier: 0,
+        address: &[],
         seconds: 1,
         nanoseconds: 2,
     };

@@ -89,6 +89,7 @@ fn case_9_record_without_body() {
         version: 11,
         event: 72,
         modifier: 0,
+        address: &[],
         seconds: 1,
         nanoseconds: 2,
     };
@@ -113,6 +114,7 @@ fn fields_of_both_headers() {
             version: 0xA1,
             event: 0xB1B2,
             modifier: 0xC1C2,
+            address: &[],
             seconds,
             nanoseconds: 0x01E2_E3E4,
         };
@@ -206,7 +208,7 @@ fn case_14_token_leaves_the_body() {
 #[test]
 fn case_15_no_token_number() {
     assert_eq!(refused(&case_nine("00"), 0), (6, 18, 0));
-    for number in ["11", "13", "14", "74"] {
+    for number in ["11", "13", "14", "15", "74", "79"] {
         assert_eq!(refused(&case_nine(number), 0), (6, 18, 0));
     }
 }

@@ -26,6 +26,24 @@ const PARTY64: Party<u64> = Party {
     address: PARTY32.address,
 };
 
+/// The same with other bytes for the address.
+const fn expanded<P: Copy>(party: Party<P>, address: &[u8]) -> Party<P, &[u8]> {
+    Party {
+        audit: party.audit,
+        effective_user: party.effective_user,
+        effective_group: party.effective_group,
+        real_user: party.real_user,
+        real_group: party.real_group,
+        process: party.process,
+        session: party.session,
+        port: party.port,
+        address,
+    }
+}
+
+const IPV4: &[u8] = &[192, 0, 2, 7];
+const IPV6: &[u8] = &[0x20, 1, 0x0D, 0xB8, 0, 0, 0, 0, 0, 0, 0, 0, 0, 0, 0x13, 1];
+
 const IP: IpHeader = IpHeader {
     version: 0x45,
     service: 1,
@@ -60,6 +78,11 @@ fn kinds() -> Vec<(WriteToken<'static>, Token<'static>, Vec<u8>, usize)> {
     };
     let ids = "01020304 11121314 21222324 31323334 41424344 51525354 61626364";
     let party = |number: &str, port: &str| hex(&format!("{number} {ids} {port} 81828384"));
+    let ipv4 = "00000004 C0000207";
+    let ipv6 = "00000010 20010DB8 00000000 00000000 00001301";
+    let party_ex =
+        |number: &str, port: &str, rest: &str| hex(&format!("{number} {ids} {port} {rest}"));
+    let (port, wide) = ("71727374", "9192939495969798");
     macro_rules! same {
         ($variant:ident $fields:tt, $bytes:expr, $fixed:expr) => {
             (
@@ -80,6 +103,48 @@ fn kinds() -> Vec<(WriteToken<'static>, Token<'static>, Vec<u8>, usize)> {
         same!(Process32(PARTY32), party("26", "71727374"), 37),
         same!(Subject64(PARTY64), party("75", "9192939495969798"), 41),
         same!(Process64(PARTY64), party("77", "9192939495969798"), 41),
+        same!(
+            Subject32Ex(expanded(PARTY32, IPV4)),
+            party_ex("7A", port, ipv4),
+            37
+        ),
+        same!(
+            Subject32Ex(expanded(PARTY32, IPV6)),
+            party_ex("7A", port, ipv6),
+            37
+        ),
+        same!(
+            Process32Ex(expanded(PARTY32, IPV4)),
+            party_ex("7B", port, ipv4),
+            37
+        ),
+        same!(
+            Process32Ex(expanded(PARTY32, IPV6)),
+            party_ex("7B", port, ipv6),
+            37
+        ),
+        same!(
+            Subject64Ex(expanded(PARTY64, IPV4)),
+            party_ex("7C", wide, ipv4),
+            41
+        ),
+        same!(
+            Subject64Ex(expanded(PARTY64, IPV6)),
+            party_ex("7C", wide, ipv6),
+            41
+        ),
+        same!(
+            Process64Ex(expanded(PARTY64, IPV4)),
+            party_ex("7D", wide, ipv4),
+            41
+        ),
+        same!(
+            Process64Ex(expanded(PARTY64, IPV6)),
+            party_ex("7D", wide, ipv6),
+            41
+        ),
+        same!(InAddrEx { address: IPV4 }, hex(&format!("7E {ipv4}")), 5),
+        same!(InAddrEx { address: IPV6 }, hex(&format!("7E {ipv6}")), 5),
         same!(
             Return32 {
                 error: 5,
@@ -191,7 +256,7 @@ fn kinds() -> Vec<(WriteToken<'static>, Token<'static>, Vec<u8>, usize)> {
 }
 
 #[test]
-fn twenty_kinds_are_covered() {
+fn all_kinds_are_covered() {
     let mut numbers: Vec<u8> = kinds().iter().map(|kind| kind.0.number()).collect();
     numbers.sort_unstable();
     numbers.dedup();
@@ -199,7 +264,7 @@ fn twenty_kinds_are_covered() {
         numbers,
         [
             0x23, 0x24, 0x26, 0x27, 0x28, 0x29, 0x2A, 0x2B, 0x2C, 0x2D, 0x2F, 0x32, 0x3B, 0x3C,
-            0x3D, 0x52, 0x71, 0x72, 0x75, 0x77
+            0x3D, 0x52, 0x71, 0x72, 0x75, 0x77, 0x7A, 0x7B, 0x7C, 0x7D, 0x7E
         ]
     );
 }

@@ -26,12 +26,13 @@ fn refusal<T>(number: u8, place: usize) -> Result<T, Refusal> {
     })
 }
 
-fn header(number: u8) -> Header {
+fn header(number: u8) -> Header<'static> {
     Header {
         number,
         version: 11,
         event: 72,
         modifier: 3,
+        address: &[],
         seconds: 1,
         nanoseconds: 2,
     }
