@@ -29,8 +29,19 @@ static void print_text(const uint8_t *text, size_t length)
 
 static int is_party(const bsm_token *t)
 {
-    return t->token == BSM_ID_SUBJECT32 || t->token == BSM_ID_SUBJECT64 || t->token == BSM_ID_PROCESS32 ||
-        t->token == BSM_ID_PROCESS64;
+    switch (t->token) {
+    case BSM_ID_SUBJECT32:
+    case BSM_ID_SUBJECT64:
+    case BSM_ID_SUBJECT32_EX:
+    case BSM_ID_SUBJECT64_EX:
+    case BSM_ID_PROCESS32:
+    case BSM_ID_PROCESS64:
+    case BSM_ID_PROCESS32_EX:
+    case BSM_ID_PROCESS64_EX:
+        return 1;
+    default:
+        return 0;
+    }
 }
 
 /* The body's first subject or process token of the session; its kind is BSM_NO_TOKEN where there is none. */

@@ -18,10 +18,11 @@ extern "C" {
 #endif
 
 /* Refusals. The place that comes with one is the item's start for 1, 3, 4, 5 and 9, the token's for 6 and 7, the asked place for 2.
-   For 8 it is the byte that spoils the text: the first zero byte that is not the last of the bytes that the length counts, or else
-   the last of them, which is not zero; where the length is 0, or a file name's over 1024, the first byte of the length. Places
-   count from the start of the trail or body given. A writer gives place 0, but for a text or name with a zero byte (8, with its
-   place in what was given, unless a name is too long) and for a record's body, which it refuses as bsm_walk_body does. */
+   For 13 it is the start of what has the address: the item's for a header, the token's for a token. For 8 it is the byte that spoils
+   the text: the first zero byte that is not the last of the bytes that the length counts, or else the last of them, which is not
+   zero; where the length is 0, or a file name's over 1024, the first byte of the length. Places count from the start of the trail or
+   body given. A writer gives place 0, but for a text or name with a zero byte (8, with its place in what was given, unless a name is
+   too long) and for a record's body, which it refuses as bsm_walk_body does. */
 enum {
     BSM_REFUSAL_SHORT = 1,            /* `need` bytes must stand from the item's start on */
     BSM_REFUSAL_PLACE = 2,            /* place beyond the buffer, or totals above the place */
@@ -33,7 +34,8 @@ enum {
     BSM_REFUSAL_BAD_TEXT = 8,         /* a bad text, or too long a file name: the byte that spoils it */
     BSM_REFUSAL_TIME_RANGE = 9,       /* microseconds or nanoseconds out of range */
     BSM_REFUSAL_NO_ROOM = 10,         /* the destination is too small */
-    BSM_REFUSAL_TOO_LARGE = 11        /* a value is too large for its field; a record's version is one byte */
+    BSM_REFUSAL_TOO_LARGE = 11,       /* a value is too large for its field; a record's version is one byte */
+    BSM_REFUSAL_ADDRESS_TYPE = 13     /* an address's type is neither 4 nor 16; a writer: an address of another length */
 };
 
 /* Token numbers. */
@@ -41,6 +43,7 @@ enum {
     BSM_ID_FILE = 0x11,
     BSM_ID_TRAILER = 0x13,
     BSM_ID_HEADER32 = 0x14,
+    BSM_ID_HEADER32_EX = 0x15,
     BSM_ID_PATH = 0x23,
     BSM_ID_SUBJECT32 = 0x24,
     BSM_ID_PROCESS32 = 0x26,
@@ -61,7 +64,13 @@ enum {
     BSM_ID_RETURN64 = 0x72,
     BSM_ID_HEADER64 = 0x74,
     BSM_ID_SUBJECT64 = 0x75,
-    BSM_ID_PROCESS64 = 0x77
+    BSM_ID_PROCESS64 = 0x77,
+    BSM_ID_HEADER64_EX = 0x79,
+    BSM_ID_SUBJECT32_EX = 0x7A,
+    BSM_ID_PROCESS32_EX = 0x7B,
+    BSM_ID_SUBJECT64_EX = 0x7C,
+    BSM_ID_PROCESS64_EX = 0x7D,
+    BSM_ID_IN_ADDR_EX = 0x7E
 };
 
 /* ---- reading items */
@@ -72,7 +81,7 @@ enum { BSM_END = 0, BSM_FILE = 1, BSM_RECORD = 2, BSM_REFUSED = 3, BSM_BOUNDARY 
 typedef struct {
     uint64_t kind;      /* BSM_END, BSM_FILE, BSM_RECORD or BSM_REFUSED; BSM_BOUNDARY only from bsm_record_before */
     uint64_t size;      /* bytes of the item */
-    uint64_t header;    /* record: BSM_ID_HEADER32 or BSM_ID_HEADER64 */
+    uint64_t header;    /* record: BSM_ID_HEADER32, BSM_ID_HEADER32_EX, BSM_ID_HEADER64 or BSM_ID_HEADER64_EX */
     uint64_t version;   /* record: at most 255 */
     uint64_t event;     /* record */
     uint64_t modifier;  /* record */
@@ -81,6 +90,8 @@ typedef struct {
     uint64_t tokens;    /* record: number of body tokens */
     uint64_t start;     /* where the body of a record, or the name of a file token, starts in the trail */
     uint64_t length;    /* and how many bytes it has, a name without its zero byte */
+    uint64_t address_start;  /* record with an expanded header: where its address starts in the trail */
+    uint64_t address_length; /* and how many bytes it has, 4 or 16 */
     uint64_t number;    /* refused: number, place, need */
     uint64_t place;
     uint64_t need;
@@ -98,6 +109,10 @@ typedef struct {
    0 and 0 where no such item stands there. */
 bsm_part bsm_body_at(const uint8_t *trail, size_t length, size_t place);
 bsm_part bsm_name_at(const uint8_t *trail, size_t length, size_t place);
+
+/* Where the address of the record at a place stands in the trail, 4 or 16 bytes; 0 and 0 where no record with an expanded header
+   stands there. */
+bsm_part bsm_address_at(const uint8_t *trail, size_t length, size_t place);
 
 /* One step from a reading state, which is a place and the totals of records and file tokens: the answer at the state (2 where the
    totals add up to more than the place), and the state after it. Only an item moves the state. */
@@ -147,10 +162,10 @@ enum { BSM_NO_TOKEN = 0, BSM_TOKEN = 1, BSM_TOKEN_REFUSED = 3 };
 typedef struct {
     uint64_t kind;      /* BSM_NO_TOKEN at the end, BSM_TOKEN, or BSM_TOKEN_REFUSED */
     uint64_t token;     /* the token's number, BSM_ID_.. */
-    uint64_t start;     /* where its text, bytes, groups or strings start */
-    uint64_t length;    /* and how many bytes they are, a text without its zero byte */
+    uint64_t start;     /* where its text, bytes, groups, strings or, in an expanded token, address start */
+    uint64_t length;    /* and how many bytes they are, a text without its zero byte, an address 4 or 16 */
     uint64_t size;      /* bytes of the whole token */
-    uint64_t count;     /* its length, number or count field */
+    uint64_t count;     /* its length, number, count or type field */
     uint64_t values[10]; /* its other fields, in the order of the layout, then zeros */
     uint64_t number;    /* refused: number, place, need */
     uint64_t place;
@@ -158,7 +173,8 @@ typedef struct {
 } bsm_token;
 
 /* Where the fields of a token stand in `values`: subject and process tokens, return32 and return64, arg32 and arg64, ip, ipc_perm,
-   exit, and those with one field. */
+   exit, and those with one field. The expanded subjects and processes have theirs up to the port there, and 0 for the address, which
+   is at `start`; in_addr_ex has none. */
 enum {
     BSM_PARTY_AUDIT,
     BSM_PARTY_EFFECTIVE_USER,
@@ -216,7 +232,9 @@ bsm_written bsm_walk_body(const uint8_t *body, size_t length);
 
 /* ---- writing: each writes at the start of dst, and answers how many bytes. Texts, names and paths are given without their zero
    byte, strings of exec tokens each with its own. Bytes that are not as many strings as `count` says are 8 with place 0. A record's
-   version over 255 is 11, for either header; its times over 32 bits are 11 for a header32. */
+   version over 255 is 11, for every header; its times over 32 bits are 11 for a header32 and a header32_ex. The address of an expanded
+   header or token is given as bytes, and their number is written as its type; another number than 4 or 16 is 13 with place 0, which is
+   told before all else. */
 
 bsm_written bsm_write_path(uint8_t *dst, size_t room, const uint8_t *text, size_t length);
 bsm_written bsm_write_text(uint8_t *dst, size_t room, const uint8_t *text, size_t length);
@@ -229,9 +247,18 @@ bsm_written bsm_write_subject64(uint8_t *dst, size_t room, uint32_t audit, uint3
     uint32_t real_user, uint32_t real_group, uint32_t process, uint32_t session, uint64_t port, uint32_t address);
 bsm_written bsm_write_process64(uint8_t *dst, size_t room, uint32_t audit, uint32_t effective_user, uint32_t effective_group,
     uint32_t real_user, uint32_t real_group, uint32_t process, uint32_t session, uint64_t port, uint32_t address);
+bsm_written bsm_write_subject32_ex(uint8_t *dst, size_t room, uint32_t audit, uint32_t effective_user, uint32_t effective_group,
+    uint32_t real_user, uint32_t real_group, uint32_t process, uint32_t session, uint32_t port, const uint8_t *address, size_t length);
+bsm_written bsm_write_process32_ex(uint8_t *dst, size_t room, uint32_t audit, uint32_t effective_user, uint32_t effective_group,
+    uint32_t real_user, uint32_t real_group, uint32_t process, uint32_t session, uint32_t port, const uint8_t *address, size_t length);
+bsm_written bsm_write_subject64_ex(uint8_t *dst, size_t room, uint32_t audit, uint32_t effective_user, uint32_t effective_group,
+    uint32_t real_user, uint32_t real_group, uint32_t process, uint32_t session, uint64_t port, const uint8_t *address, size_t length);
+bsm_written bsm_write_process64_ex(uint8_t *dst, size_t room, uint32_t audit, uint32_t effective_user, uint32_t effective_group,
+    uint32_t real_user, uint32_t real_group, uint32_t process, uint32_t session, uint64_t port, const uint8_t *address, size_t length);
 bsm_written bsm_write_return32(uint8_t *dst, size_t room, uint8_t error, uint32_t value);
 bsm_written bsm_write_return64(uint8_t *dst, size_t room, uint8_t error, uint64_t value);
 bsm_written bsm_write_in_addr(uint8_t *dst, size_t room, uint32_t address);
+bsm_written bsm_write_in_addr_ex(uint8_t *dst, size_t room, const uint8_t *address, size_t length);
 bsm_written bsm_write_ip(uint8_t *dst, size_t room, uint8_t version, uint8_t service, uint16_t length, uint16_t id, uint16_t offset,
     uint8_t ttl, uint8_t protocol, uint16_t checksum, uint32_t source, uint32_t destination);
 bsm_written bsm_write_iport(uint8_t *dst, size_t room, uint16_t port);
@@ -249,6 +276,10 @@ bsm_written bsm_write_record32(uint8_t *dst, size_t room, uint16_t version, uint
     uint64_t nanoseconds, const uint8_t *body, size_t length);
 bsm_written bsm_write_record64(uint8_t *dst, size_t room, uint16_t version, uint16_t event, uint16_t modifier, uint64_t seconds,
     uint64_t nanoseconds, const uint8_t *body, size_t length);
+bsm_written bsm_write_record32_ex(uint8_t *dst, size_t room, uint16_t version, uint16_t event, uint16_t modifier, uint64_t seconds,
+    uint64_t nanoseconds, const uint8_t *address, size_t address_length, const uint8_t *body, size_t length);
+bsm_written bsm_write_record64_ex(uint8_t *dst, size_t room, uint16_t version, uint16_t event, uint16_t modifier, uint64_t seconds,
+    uint64_t nanoseconds, const uint8_t *address, size_t address_length, const uint8_t *body, size_t length);
 
 /* ---- listing */
 

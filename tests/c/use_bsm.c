@@ -1,8 +1,9 @@
-/* Uses the library from C: writes every kind of token, a file token and two records, reads them from both ends, lists them, and tries
-   texts that are spoilt, versions of all sizes, destinations that are too small and buffers that are not there. What it expects is
-   computed from what it wrote. Exit status 0 where every assertion holds. */
+/* Uses the library from C: writes every kind of token, a file token and records, reads them from both ends, lists them, and tries
+   texts and types that are spoilt, versions and addresses of all sizes, destinations that are too small and buffers that are not
+   there. What it expects is computed from what it wrote. Exit status 0 where every assertion holds. */
 #undef NDEBUG
 #include <assert.h>
+#include <stddef.h>
 #include <stdio.h>
 #include <string.h>
 
@@ -12,8 +13,20 @@
 #define TEXT(s) (const uint8_t *)(s), sizeof(s) - 1
 #define VALUES(...) (const uint64_t[10]){__VA_ARGS__}
 
-/* Bytes of the headers and of the trailer. */
-enum { HEADER32 = 18, HEADER64 = 26, TRAILER = 7, LEAST32 = HEADER32 + TRAILER, LEAST64 = HEADER64 + TRAILER };
+/* Bytes of the headers, of the trailer and of an address's type, and where the type stands in a header. */
+enum { HEADER32 = 18, HEADER64 = 26, TRAILER = 7, TYPE = 4, TYPE_AT = 10 };
+enum { LEAST32 = HEADER32 + TRAILER, LEAST64 = HEADER64 + TRAILER };
+
+/* Addresses; the second has bytes of a trailer. */
+static const uint8_t ipv4[] = {192, 0, 2, 7};
+static const uint8_t ipv6[] = {0x20, 1, 0x0D, 0xB8, 0x13, 0xB1, 5, 0, 0, 0, 0x19, 0, 0, 0, 0, 7};
+
+/* A bsm_item is sixteen numbers; those of the address stand between the part and the refusal. */
+_Static_assert(sizeof(bsm_item) == 16 * sizeof(uint64_t), "sixteen numbers");
+_Static_assert(offsetof(bsm_item, address_start) == offsetof(bsm_item, length) + 8, "behind the part");
+_Static_assert(offsetof(bsm_item, address_length) == offsetof(bsm_item, address_start) + 8, "start and length");
+_Static_assert(offsetof(bsm_item, number) == offsetof(bsm_item, address_length) + 8, "before the refusal");
+_Static_assert(offsetof(bsm_step, place) == sizeof(bsm_item) && offsetof(bsm_before, place) == sizeof(bsm_item), "behind the item");
 
 static uint8_t body[1024];
 static size_t body_size, tokens;
@@ -82,24 +95,46 @@ static void write_values(void)
         VALUES([BSM_EXIT_STATUS] = 3, [BSM_EXIT_VALUE] = 4));
 }
 
-#define PARTY(port)                                                                                                                \
+#define PARTY(port, address)                                                                                                       \
     VALUES([BSM_PARTY_AUDIT] = 1, [BSM_PARTY_EFFECTIVE_USER] = 2, [BSM_PARTY_EFFECTIVE_GROUP] = 3, [BSM_PARTY_REAL_USER] = 4,      \
         [BSM_PARTY_REAL_GROUP] = 5, [BSM_PARTY_PROCESS] = 6, [BSM_PARTY_SESSION] = 7, [BSM_PARTY_PORT] = port,                     \
-        [BSM_PARTY_ADDRESS] = 9)
+        [BSM_PARTY_ADDRESS] = address)
 
 static void write_parties(void)
 {
     const uint64_t wide = (uint64_t)1 << 40;
-    token(bsm_write_subject32(REST(body, body_size), 1, 2, 3, 4, 5, 6, 7, 8, 9), BSM_ID_SUBJECT32, 37, 0, 0, 0, PARTY(8));
-    token(bsm_write_process32(REST(body, body_size), 1, 2, 3, 4, 5, 6, 7, 8, 9), BSM_ID_PROCESS32, 37, 0, 0, 0, PARTY(8));
-    token(bsm_write_subject64(REST(body, body_size), 1, 2, 3, 4, 5, 6, 7, wide, 9), BSM_ID_SUBJECT64, 41, 0, 0, 0, PARTY(wide));
-    token(bsm_write_process64(REST(body, body_size), 1, 2, 3, 4, 5, 6, 7, wide, 9), BSM_ID_PROCESS64, 41, 0, 0, 0, PARTY(wide));
+    token(bsm_write_subject32(REST(body, body_size), 1, 2, 3, 4, 5, 6, 7, 8, 9), BSM_ID_SUBJECT32, 37, 0, 0, 0, PARTY(8, 9));
+    token(bsm_write_process32(REST(body, body_size), 1, 2, 3, 4, 5, 6, 7, 8, 9), BSM_ID_PROCESS32, 37, 0, 0, 0, PARTY(8, 9));
+    token(bsm_write_subject64(REST(body, body_size), 1, 2, 3, 4, 5, 6, 7, wide, 9), BSM_ID_SUBJECT64, 41, 0, 0, 0, PARTY(wide, 9));
+    token(bsm_write_process64(REST(body, body_size), 1, 2, 3, 4, 5, 6, 7, wide, 9), BSM_ID_PROCESS64, 41, 0, 0, 0, PARTY(wide, 9));
+}
+
+/* The expanded tokens: the address is their tail, its length their type. */
+static void write_expanded(const uint8_t *address, size_t n)
+{
+    const uint64_t wide = (uint64_t)1 << 40;
+    const size_t first = body_size;
+    token(bsm_write_subject32_ex(REST(body, body_size), 1, 2, 3, 4, 5, 6, 7, 8, address, n), BSM_ID_SUBJECT32_EX, 37, n, 0, n,
+        PARTY(8, 0));
+    token(bsm_write_process32_ex(REST(body, body_size), 1, 2, 3, 4, 5, 6, 7, 8, address, n), BSM_ID_PROCESS32_EX, 37, n, 0, n,
+        PARTY(8, 0));
+    token(bsm_write_subject64_ex(REST(body, body_size), 1, 2, 3, 4, 5, 6, 7, wide, address, n), BSM_ID_SUBJECT64_EX, 41, n, 0, n,
+        PARTY(wide, 0));
+    token(bsm_write_process64_ex(REST(body, body_size), 1, 2, 3, 4, 5, 6, 7, wide, address, n), BSM_ID_PROCESS64_EX, 41, n, 0, n,
+        PARTY(wide, 0));
+    token(bsm_write_in_addr_ex(REST(body, body_size), address, n), BSM_ID_IN_ADDR_EX, 5, n, 0, n, VALUES(0));
+    bsm_token t;
+    for (size_t place = first; place < body_size; place += t.size) {
+        t = bsm_token_at(body, body_size, place);
+        assert(memcmp(body + t.start, address, n) == 0 && t.start + t.length == place + t.size);
+        assert(memcmp(body + t.start - TYPE, (const uint8_t[]){0, 0, 0, (uint8_t)n}, TYPE) == 0);
+    }
 }
 
 /* The body as a whole, the strings of its first two tokens, its end, and places that are refused. */
 static void read_body(void)
 {
-    assert(tokens == 20 && accepted(bsm_walk_body(body, body_size), tokens));
+    assert(tokens == 30 && accepted(bsm_walk_body(body, body_size), tokens));
     bsm_part path = bsm_text_at(body, body_size, 0);
     assert(path.start == 3 && path.length == 11 && memcmp(body + path.start, "/etc/passwd", 11) == 0);
     bsm_part empty = bsm_text_at(body, body_size, 15);
@@ -149,6 +184,9 @@ static void read_items(void)
     assert(r.modifier == 1 && r.seconds == 1000 && r.fraction == 2000 && r.tokens == tokens && r.number == 0);
     assert(same_part(bsm_body_at(trail, trail_size, record_place), record_place + HEADER32, body_size));
     assert(same_part(bsm_name_at(trail, trail_size, record_place), 0, 0));
+    assert(r.address_start == 0 && r.address_length == 0 && f.address_start == 0 && f.address_length == 0);
+    for (size_t place = 0; place <= trail_size + 1; place++)
+        assert(same_part(bsm_address_at(trail, trail_size, place), 0, 0));
 
     bsm_item w = bsm_item_at(trail, trail_size, second_place);
     assert(w.kind == BSM_RECORD && w.size == LEAST64 && w.header == BSM_ID_HEADER64 && w.seconds == (uint64_t)1 << 33 && w.tokens == 0);
@@ -222,8 +260,8 @@ static void list_trail(void)
 {
     char expected[256];
     size_t n = (size_t)snprintf(expected, sizeof expected,
-        "bsmlist\t1\nF\t0\t20\t5\t999999\nR\t%zu\t%zu\t72\t1\t1000\t2000\t20\nR\t%zu\t%d\t73\t0\t8589934592\t999999999\t0\nE\t2\t1\n",
-        record_place, LEAST32 + body_size, second_place, LEAST64);
+        "bsmlist\t1\nF\t0\t20\t5\t999999\nR\t%zu\t%zu\t72\t1\t1000\t2000\t%zu\nR\t%zu\t%d\t73\t0\t8589934592\t999999999\t0\nE\t2\t1\n",
+        record_place, LEAST32 + body_size, tokens, second_place, LEAST64);
     uint8_t lines[256];
     size_t at = bsm_first_line(REST(lines, 0)).written;
     for (size_t place = 0; place < trail_size; place += bsm_item_at(trail, trail_size, place).size)
@@ -285,19 +323,25 @@ static void line_of_no_item(void)
     assert(refused(bsm_item_line(out, 10, trail, trail_size, record_place), 10, 0));
 }
 
-/* Spoils a byte of the item at a place of a good trail: the item reader, a step and the run name the byte. */
-static void names_byte(uint8_t *t, size_t n, size_t item, size_t at, uint8_t byte, uint64_t place)
+/* Spoils a byte of the item at a place of a good trail: the item reader, a step and the run refuse it with this number and place. */
+static void refuses(uint8_t *t, size_t n, size_t item, size_t at, uint8_t byte, uint64_t number, uint64_t place)
 {
     const uint8_t old = t[at];
     t[at] = byte;
-    bsm_item i = bsm_item_at(t, n, item);
-    assert(i.kind == BSM_REFUSED && i.number == BSM_REFUSAL_BAD_TEXT && i.place == place && i.need == 0);
+    const bsm_item i = bsm_item_at(t, n, item), none = {.kind = BSM_REFUSED, .number = number, .place = place};
+    assert(memcmp(&i, &none, sizeof i) == 0);
     bsm_step s = bsm_next(t, n, item, 0, 0);
-    assert(s.item.number == BSM_REFUSAL_BAD_TEXT && s.item.place == place && s.place == item);
+    assert(s.item.number == number && s.item.place == place && s.place == item);
     bsm_outcome o = bsm_run(t, n, 0, 0, 0);
-    assert(o.number == BSM_REFUSAL_BAD_TEXT && o.at == place && o.place == item && o.need == 0);
+    assert(o.number == number && o.at == place && o.place == item && o.need == 0);
     t[at] = old;
     assert(bsm_run(t, n, 0, 0, 0).number == 0);
+}
+
+/* The same of a text, whose byte is named. */
+static void names_byte(uint8_t *t, size_t n, size_t item, size_t at, uint8_t byte, uint64_t place)
+{
+    refuses(t, n, item, at, byte, BSM_REFUSAL_BAD_TEXT, place);
 }
 
 /* Each byte of a file name, and its length. */
@@ -379,6 +423,9 @@ static void guard_bytes(void)
     assert(refused(bsm_write_record32(d + 8, 56, 0, 0, 0, (uint64_t)1 << 32, 0, body, 0), 11, 0));
     assert(refused(bsm_write_record64(d + 8, LEAST64 - 1, 0, 0, 0, 0, 0, body, 0), 10, 0));
     assert(refused(bsm_write_record64(d + 8, 56, 0, 0, 0, 0, 0, body, 18), 7, 15));
+    assert(refused(bsm_write_in_addr_ex(d + 8, 8, ipv4, 4), 10, 0) && refused(bsm_write_in_addr_ex(d + 8, 56, ipv6, 15), 13, 0));
+    assert(refused(bsm_write_record32_ex(d + 8, LEAST32 + 7, 0, 0, 0, 0, 0, ipv4, 4, body, 0), 10, 0));
+    assert(refused(bsm_write_record64_ex(d + 8, 56, 0, 0, 0, 0, 0, ipv6, 5, body, 0), 13, 0));
     assert(refused(bsm_first_line(d + 8, 9), 10, 0));
     assert(memcmp(d, before, sizeof d) == 0);
 
@@ -388,11 +435,126 @@ static void guard_bytes(void)
 }
 
 typedef bsm_written record_writer(uint8_t *, size_t, uint16_t, uint16_t, uint16_t, uint64_t, uint64_t, const uint8_t *, size_t);
+typedef bsm_written record_ex_writer(uint8_t *, size_t, uint16_t, uint16_t, uint16_t, uint64_t, uint64_t, const uint8_t *, size_t,
+    const uint8_t *, size_t);
+
+/* The writers of expanded records with an address of their own. */
+static bsm_written write_ex32(uint8_t *dst, size_t room, uint16_t version, uint16_t event, uint16_t modifier, uint64_t seconds,
+    uint64_t nanoseconds, const uint8_t *b, size_t n)
+{
+    return bsm_write_record32_ex(dst, room, version, event, modifier, seconds, nanoseconds, ipv6, sizeof ipv6, b, n);
+}
+
+static bsm_written write_ex64(uint8_t *dst, size_t room, uint16_t version, uint16_t event, uint16_t modifier, uint64_t seconds,
+    uint64_t nanoseconds, const uint8_t *b, size_t n)
+{
+    return bsm_write_record64_ex(dst, room, version, event, modifier, seconds, nanoseconds, ipv4, sizeof ipv4, b, n);
+}
+
+/* A record with an address between two others: every field of it, where address and body stand, and a step back to it. */
+static void read_expanded(record_ex_writer *write, uint64_t header, size_t least, const uint8_t *address, size_t n)
+{
+    uint8_t t[2048];
+    const size_t item = bsm_write_record32(REST(t, 0), 11, 72, 0, 1, 2, NULL, 0).written, head = least - TRAILER + TYPE + n;
+    bsm_written w = write(REST(t, item), 255, 0x0203, 0x0405, UINT32_MAX, 999999999, address, n, body, body_size);
+    assert(accepted(w, head + body_size + TRAILER) && memcmp(t + item + head, body, body_size) == 0);
+    assert(memcmp(t + item + TYPE_AT + TYPE, address, n) == 0);
+    const size_t end = item + w.written, size = end + bsm_write_file(REST(t, end), 5, 7, TEXT("a")).written;
+
+    const bsm_item expected = {.kind = BSM_RECORD, .size = w.written, .header = header, .version = 255, .event = 0x0203,
+        .modifier = 0x0405, .seconds = UINT32_MAX, .fraction = 999999999, .tokens = tokens, .start = item + head,
+        .length = body_size, .address_start = item + TYPE_AT + TYPE, .address_length = n};
+    bsm_item r = bsm_item_at(t, size, item);
+    bsm_step s = bsm_next(t, size, item, 1, 0);
+    assert(memcmp(&r, &expected, sizeof r) == 0 && memcmp(&s.item, &expected, sizeof r) == 0);
+    assert(s.place == end && s.records == 2 && s.files == 0);
+    assert(same_part(bsm_address_at(t, size, item), expected.address_start, n));
+    assert(same_part(bsm_body_at(t, size, item), expected.start, body_size));
+    assert(same_part(bsm_address_at(t, size, 0), 0, 0) && same_part(bsm_address_at(t, size, end), 0, 0));
+    assert(same_part(bsm_address_at(t, end - 1, item), 0, 0));
+    assert(record_at(bsm_record_before(t, size, end), t, size, item));
+
+    for (unsigned type = 0; type < 256; type++)
+        if (type != 4 && type != 16)
+            refuses(t, size, item, item + TYPE_AT + 3, (uint8_t)type, BSM_REFUSAL_ADDRESS_TYPE, item);
+    for (size_t at = TYPE_AT; at < TYPE_AT + 3; at++)
+        refuses(t, size, item, item + at, 1, BSM_REFUSAL_ADDRESS_TYPE, item);
+}
+
+/* The smallest record with an address of four bytes: with type 16 its count is too small, but only then. */
+static void least_expanded(record_ex_writer *write, size_t least)
+{
+    uint8_t t[128];
+    const size_t item = bsm_write_file(REST(t, 0), 5, 7, TEXT("a")).written;
+    const size_t n = item + write(REST(t, item), 11, 72, 0, 1, 2, ipv4, sizeof ipv4, NULL, 0).written;
+    assert(n == item + least + TYPE + sizeof ipv4);
+    refuses(t, n, item, item + TYPE_AT + 3, 16, BSM_REFUSAL_RECORD_LENGTH, item);
+    refuses(t, n, item, item + TYPE_AT + 3, 6, BSM_REFUSAL_ADDRESS_TYPE, item);
+    refuses(t, n, item, n - TRAILER, 0, BSM_REFUSAL_TRAILER, item);
+    refuses(t, n, item, item + 4, (uint8_t)(least + TYPE + sizeof ipv4 - 1), BSM_REFUSAL_RECORD_LENGTH, item);
+}
+
+/* Another type in each expanded token of the body, which is 13 at the token in whatever reads it; and 7 up to the address's end. */
+static void types_of_tokens(void)
+{
+    uint8_t b[1024], d[2048];
+    memcpy(b, body, body_size);
+    bsm_token t;
+    size_t expanded = 0;
+    for (size_t place = 0; (t = bsm_token_at(b, body_size, place)).kind == BSM_TOKEN; place += t.size) {
+        if (t.token < BSM_ID_SUBJECT32_EX)
+            continue;
+        uint8_t *type = b + t.start - 1;
+        for (unsigned other = 0; other < 256; other++) {
+            *type = (uint8_t)other;
+            if (other == 4 || other == 16)
+                continue;
+            bsm_token k = bsm_token_at(b, body_size, place);
+            assert(k.kind == BSM_TOKEN_REFUSED && k.number == BSM_REFUSAL_ADDRESS_TYPE && k.place == place && k.need == 0);
+            assert(refused(bsm_walk_body(b, body_size), 13, place) && refused(bsm_walk_body(b, t.start), 13, place));
+            assert(refused(bsm_write_record32(REST(d, 0), 0, 0, 0, 0, 0, b, body_size), 13, place));
+            assert(refused(write_ex64(REST(d, 0), 0, 0, 0, 0, 0, b, body_size), 13, place));
+        }
+        *type = (uint8_t)t.length;
+        for (size_t end = place + 1; end < place + t.size; end++)
+            assert(refused(bsm_walk_body(b, end), 7, place));
+        expanded++;
+    }
+    assert(expanded == 10);
+}
+
+/* Addresses of every length: 13 before all else, and nothing is written; 4 and 16 are taken. */
+static void lengths_of_addresses(void)
+{
+    static const uint8_t address[64], large[65535];
+    uint8_t d[128], before[sizeof d];
+    memset(d, 0xA5, sizeof d);
+    memcpy(before, d, sizeof d);
+    for (size_t n = 0; n <= sizeof address; n++) {
+        if (n == 4 || n == 16)
+            continue;
+        for (size_t room = 0; room <= sizeof d; room += sizeof d) {
+            assert(refused(bsm_write_subject32_ex(d, room, 1, 2, 3, 4, 5, 6, 7, 8, address, n), 13, 0));
+            assert(refused(bsm_write_process32_ex(d, room, 1, 2, 3, 4, 5, 6, 7, 8, address, n), 13, 0));
+            assert(refused(bsm_write_subject64_ex(d, room, 1, 2, 3, 4, 5, 6, 7, 8, address, n), 13, 0));
+            assert(refused(bsm_write_process64_ex(d, room, 1, 2, 3, 4, 5, 6, 7, 8, address, n), 13, 0));
+            assert(refused(bsm_write_in_addr_ex(d, room, address, n), 13, 0));
+            assert(refused(bsm_write_record32_ex(d, room, 11, 1, 2, 3, 4, address, n, NULL, 0), 13, 0));
+            assert(refused(bsm_write_record64_ex(d, room, 11, 1, 2, 3, 4, address, n, NULL, 0), 13, 0));
+            assert(refused(bsm_write_record32_ex(d, room, 256, 1, 2, UINT64_MAX, 4, address, n, large, sizeof large), 13, 0));
+            assert(refused(bsm_write_record64_ex(d, room, 256, 1, 2, 3, UINT64_MAX, address, n, TEXT("\0")), 13, 0));
+        }
+    }
+    assert(memcmp(d, before, sizeof d) == 0);
+    assert(accepted(bsm_write_in_addr_ex(d, 9, ipv4, 4), 9) && memcmp(d, "\x7E\0\0\0\4\xC0\0\2\7", 9) == 0);
+    assert(accepted(bsm_write_in_addr_ex(d, 21, ipv6, 16), 21) && memcmp(d + 4, "\x10\x20", 2) == 0 && d[20] == 7);
+    assert(memcmp(d + 21, before + 21, sizeof d - 21) == 0);
+}
 
 /* Each version that fits one byte is written and read back; one over 255 is 11 and changes no byte. */
 static void write_versions(record_writer *write, size_t least)
 {
-    uint8_t d[LEAST64], before[sizeof d];
+    uint8_t d[LEAST64 + TYPE + sizeof ipv6], before[sizeof d];
     memset(before, 0xA5, sizeof before);
     for (uint32_t version = 0; version <= UINT16_MAX; version++) {
         memcpy(d, before, sizeof d);
@@ -445,6 +607,8 @@ static void name_refusals(void)
     assert(bsm_write_seq(d, 4, 1).number == BSM_REFUSAL_NO_ROOM);
     assert(bsm_write_record32(d, room, 0, 0, 0, (uint64_t)1 << 32, 0, NULL, 0).number == BSM_REFUSAL_TOO_LARGE);
     assert(bsm_write_record64(d, room, 256, 0, 0, 0, 0, NULL, 0).number == BSM_REFUSAL_TOO_LARGE);
+    assert(bsm_write_in_addr_ex(d, room, ipv6, 6).number == BSM_REFUSAL_ADDRESS_TYPE);
+    assert(bsm_walk_body(TEXT("\x7e\0\0\0\6")).number == BSM_REFUSAL_ADDRESS_TYPE);
 }
 
 /* A null pointer with length 0 stands for nothing, in every parameter of every function. */
@@ -470,6 +634,7 @@ static void read_nothing(void)
     for (size_t place = 0; place < 2; place++) {
         assert(same_part(bsm_body_at(NOTHING, place), 0, 0));
         assert(same_part(bsm_name_at(NOTHING, place), 0, 0));
+        assert(same_part(bsm_address_at(NOTHING, place), 0, 0));
         assert(same_part(bsm_text_at(NOTHING, place), 0, 0));
     }
 }
@@ -485,6 +650,11 @@ static void write_into_nothing(void)
     assert(refused(bsm_write_process32(NOTHING, 1, 2, 3, 4, 5, 6, 7, 8, 9), 10, 0));
     assert(refused(bsm_write_subject64(NOTHING, 1, 2, 3, 4, 5, 6, 7, 8, 9), 10, 0));
     assert(refused(bsm_write_process64(NOTHING, 1, 2, 3, 4, 5, 6, 7, 8, 9), 10, 0));
+    assert(refused(bsm_write_subject32_ex(NOTHING, 1, 2, 3, 4, 5, 6, 7, 8, ipv4, 4), 10, 0));
+    assert(refused(bsm_write_process32_ex(NOTHING, 1, 2, 3, 4, 5, 6, 7, 8, ipv6, 16), 10, 0));
+    assert(refused(bsm_write_subject64_ex(NOTHING, 1, 2, 3, 4, 5, 6, 7, 8, ipv4, 4), 10, 0));
+    assert(refused(bsm_write_process64_ex(NOTHING, 1, 2, 3, 4, 5, 6, 7, 8, ipv6, 16), 10, 0));
+    assert(refused(bsm_write_in_addr_ex(NOTHING, ipv4, 4), 10, 0) && refused(bsm_write_in_addr_ex(NOTHING, NOTHING), 13, 0));
     assert(refused(bsm_write_return32(NOTHING, 1, 2), 10, 0));
     assert(refused(bsm_write_return64(NOTHING, 1, 2), 10, 0));
     assert(refused(bsm_write_in_addr(NOTHING, 1), 10, 0));
@@ -503,14 +673,17 @@ static void write_into_nothing(void)
     assert(refused(bsm_write_record64(NOTHING, 1, 2, 3, 4, 5, body, body_size), 10, 0));
     assert(refused(bsm_write_record32(NOTHING, 1, 2, 3, 4, 5, NOTHING), 10, 0));
     assert(refused(bsm_write_record64(NOTHING, 1, 2, 3, 4, 5, NOTHING), 10, 0));
+    assert(refused(write_ex32(NOTHING, 1, 2, 3, 4, 5, body, body_size), 10, 0));
+    assert(refused(write_ex64(NOTHING, 1, 2, 3, 4, 5, body, body_size), 10, 0));
+    assert(refused(write_ex32(NOTHING, 1, 2, 3, 4, 5, NOTHING), 10, 0) && refused(write_ex64(NOTHING, 1, 2, 3, 4, 5, NOTHING), 10, 0));
     /* A refusal that comes before 10 is still the answer. */
     assert(refused(bsm_write_text(NOTHING, TEXT("\0")), 8, 0) && refused(bsm_write_file(NOTHING, 1, 1000000, NOTHING), 9, 0));
 }
 
-/* Every writer that takes a buffer, with none. */
+/* Every writer that takes a buffer, with none; no bytes are no address. */
 static void write_nothing(void)
 {
-    uint8_t d[40];
+    uint8_t d[64];
     const size_t n = sizeof d;
     assert(accepted(bsm_write_path(d, n, NOTHING), 4) && memcmp(d, "\x23\0\1\0", 4) == 0);
     assert(accepted(bsm_write_text(d, n, NOTHING), 4) && memcmp(d, "\x28\0\1\0", 4) == 0);
@@ -524,6 +697,17 @@ static void write_nothing(void)
     assert(accepted(bsm_write_file(d, n, 1, 2, NOTHING), 12) && memcmp(d + 9, "\0\1\0", 3) == 0);
     assert(accepted(bsm_write_record32(d, n, 1, 2, 3, 4, 5, NOTHING), LEAST32) && bsm_item_at(d, LEAST32, 0).kind == BSM_RECORD);
     assert(accepted(bsm_write_record64(d, n, 1, 2, 3, 4, 5, NOTHING), LEAST64) && bsm_item_at(d, LEAST64, 0).kind == BSM_RECORD);
+    assert(accepted(write_ex32(d, n, 1, 2, 3, 4, 5, NOTHING), LEAST32 + TYPE + 16) && bsm_item_at(d, n, 0).kind == BSM_RECORD);
+    assert(accepted(write_ex64(d, n, 1, 2, 3, 4, 5, NOTHING), LEAST64 + TYPE + 4) && bsm_item_at(d, n, 0).kind == BSM_RECORD);
+    assert(refused(bsm_write_subject32_ex(d, n, 1, 2, 3, 4, 5, 6, 7, 8, NOTHING), 13, 0));
+    assert(refused(bsm_write_process32_ex(d, n, 1, 2, 3, 4, 5, 6, 7, 8, NOTHING), 13, 0));
+    assert(refused(bsm_write_subject64_ex(d, n, 1, 2, 3, 4, 5, 6, 7, 8, NOTHING), 13, 0));
+    assert(refused(bsm_write_process64_ex(d, n, 1, 2, 3, 4, 5, 6, 7, 8, NOTHING), 13, 0));
+    assert(refused(bsm_write_in_addr_ex(d, n, NOTHING), 13, 0));
+    assert(refused(bsm_write_record32_ex(d, n, 1, 2, 3, 4, 5, NOTHING, NOTHING), 13, 0));
+    assert(refused(bsm_write_record64_ex(d, n, 1, 2, 3, 4, 5, NOTHING, NOTHING), 13, 0));
+    assert(refused(bsm_write_record32_ex(d, n, 1, 2, 3, 4, 5, NOTHING, TEXT("\0")), 13, 0));
+    assert(refused(bsm_write_record64_ex(d, n, 1, 2, 3, 4, 5, NOTHING, TEXT("\0")), 13, 0));
 }
 
 static void list_nothing(void)
@@ -552,6 +736,8 @@ int main(void)
     write_texts();
     write_values();
     write_parties();
+    write_expanded(ipv4, sizeof ipv4);
+    write_expanded(ipv6, sizeof ipv6);
     read_body();
     write_trail();
     read_items();
@@ -565,10 +751,22 @@ int main(void)
     spoil_texts();
     spoil_given();
     guard_bytes();
+    read_expanded(bsm_write_record32_ex, BSM_ID_HEADER32_EX, LEAST32, ipv4, sizeof ipv4);
+    read_expanded(bsm_write_record32_ex, BSM_ID_HEADER32_EX, LEAST32, ipv6, sizeof ipv6);
+    read_expanded(bsm_write_record64_ex, BSM_ID_HEADER64_EX, LEAST64, ipv4, sizeof ipv4);
+    read_expanded(bsm_write_record64_ex, BSM_ID_HEADER64_EX, LEAST64, ipv6, sizeof ipv6);
+    least_expanded(bsm_write_record32_ex, LEAST32);
+    least_expanded(bsm_write_record64_ex, LEAST64);
+    types_of_tokens();
+    lengths_of_addresses();
     write_versions(bsm_write_record32, LEAST32);
     write_versions(bsm_write_record64, LEAST64);
+    write_versions(write_ex32, LEAST32 + TYPE + sizeof ipv6);
+    write_versions(write_ex64, LEAST64 + TYPE + sizeof ipv4);
     order_of_versions(bsm_write_record32);
     order_of_versions(bsm_write_record64);
+    order_of_versions(write_ex32);
+    order_of_versions(write_ex64);
     name_refusals();
     read_nothing();
     write_into_nothing();

@@ -7,20 +7,20 @@ use lib.ListN.{length, take, drop}
 use lib.Seq.{drop-drop}
 use Rattle.bsm_field.specs.Number.{field}
 use Rattle.bsm_token.specs.Layout.{rowOf, fixed}
-use Rattle.bsm_token.specs.Token.{Token, Extent, extentOf, TokenAnswer, token, end as tokenEnd, refusal as tokenRefusal, tokenAt, hasString, stringOf, stringStart}
+use Rattle.bsm_token.specs.Token.{Token, Extent, extentOf, TokenAnswer, token, end as tokenEnd, refusal as tokenRefusal, tokenAt, hasString, tailIf, startIf, stringOf, stringStart}
 use Rattle.bsm_token.specs.Flat.{flatToken}
 use Rattle.bsm_token.specs.declared.flat.FlatToken.{FlatToken}
 use Rattle.bsm_token.specs.declared.refusal.Refusal.{Refusal}
 use Rattle.bsm_token.proofs.Reader.{token-at}
 use Rattle.bsm_token.proofs.Tokens.{size-some, tail-take, tail-length}
 use Rattle.bsm_item.specs.Item.{Answer, item, end, short, refusal, itemAt}
-use Rattle.bsm_item.specs.Meaning.{itemMeant, partMeant, refusalMeant, partFor, located, readMeant}
+use Rattle.bsm_item.specs.Meaning.{headMeant, addressPart, itemMeant, partMeant, addressMeant, refusalMeant, partFor, addressFor, located, readMeant}
 use Rattle.bsm_item.specs.declared.item.Header.{Header}
 use Rattle.bsm_item.specs.declared.item.Item.{Item as Found}
 use Rattle.bsm_item.specs.declared.item.Item.the-variants.{File, Record}
 use Rattle.bsm_item.specs.declared.item.ItemRead.{ItemRead}
 use Rattle.bsm_item.specs.declared.item.ItemRead.the-variants.{Found as FoundItem, End, Refused}
-use Rattle.bsm_export.specs.Items.{PartTold, bodyOf, bodyStart, nameOf, nameStart}
+use Rattle.bsm_export.specs.Items.{PartTold, bodyOf, bodyStart, nameOf, nameStart, addressTold, addressAt}
 use Rattle.bsm_export.specs.declared.item.BsmPart.{BsmPart}
 use Rattle.bsm_export.proofs.Refusals.{by-numbers}
 
@@ -39,6 +39,10 @@ module _ (s : List ℕ) (p : ℕ) (r : ItemRead) (e : readMeant s r ≡ located 
   -- where the part of the item i stands
   place-of : (i : Found) → r ≡ FoundItem i → partMeant i ≡ partFor p (item (itemMeant s i))
   place-of i f = ap (λ y. readMeant s y .part) (sym f) ∙ ap (λ y. y .part) e ∙ ap (partFor p) (answer f)
+
+  -- where its address stands
+  address-place : (i : Found) → r ≡ FoundItem i → addressMeant i ≡ addressFor p (item (itemMeant s i))
+  address-place i f = ap (λ y. readMeant s y .address) (sym f) ∙ ap (λ y. y .address) e ∙ ap (addressFor p) (answer f)
 
   -- a part, by its bytes and its start, for each answer
   module _ (bytes : Answer → List ℕ) (start : Answer → ℕ) {q : BsmPart} where
@@ -92,9 +96,31 @@ module _ (s : List ℕ) (p : ℕ) (r : ItemRead) (e : readMeant s r ≡ located 
     unfolding nameOf nameStart
     name-refused f g h = refused-at nameOf (nameStart p) f g (λ k n. (refl, refl)) (λ j k n. (refl, refl)) h
 
+    pub address-of : (i : Found) (n : ℕ) (d : Header) (c a l : ℕ) → r ≡ FoundItem i → i ≡ Record n d c a l → {b : ℕ} → b ≡ addressPart d a .start → q ≡ part b (d .address)
+        → PartTold s (addressTold (itemAt s p)) (addressAt p (itemAt s p)) q
+    unfolding addressTold headMeant
+    address-of i n d c a l f g k h =
+        let w = address-place (Record n d c a l) (f ∙ ap FoundItem g) in
+        told-at addressTold (addressAt p) (answer (f ∙ ap FoundItem g))
+        (rw (h, k) (record { start = ap (λ y. y .start) w; long = ap (λ y. y .length) w; bytes = refl }))
+
+    pub address-none : (i : Found) (n x y a l : ℕ) → r ≡ FoundItem i → i ≡ File n x y a l → q ≡ part 0 0 → PartTold s (addressTold (itemAt s p)) (addressAt p (itemAt s p)) q
+    unfolding addressTold
+    address-none i n x y a l f g h = told-at addressTold (addressAt p) (answer (f ∙ ap FoundItem g)) (nothing-told s h)
+
+    pub address-end : r ≡ End → q ≡ part 0 0 → PartTold s (addressTold (itemAt s p)) (addressAt p (itemAt s p)) q
+    unfolding addressTold
+    address-end f h = none-at addressTold (addressAt p) end (answer f) refl refl h
+
+    pub address-refused : (f : Refusal) → r ≡ Refused f → q ≡ part 0 0 → PartTold s (addressTold (itemAt s p)) (addressAt p (itemAt s p)) q
+    unfolding addressTold
+    address-refused f g h = refused-at addressTold (addressAt p) f g (λ k n. (refl, refl)) (λ j k n. (refl, refl)) h
+
     pub ruleset body-says = (body-of, body-none, body-end, body-refused)
 
     pub ruleset name-says = (name-of, name-none, name-end, name-refused)
+
+    pub ruleset address-says = (address-of, address-none, address-end, address-refused)
 
 -- ---- the string of a token
 
@@ -120,7 +146,7 @@ module _ (s : List ℕ) (p : ℕ) (r : FlatToken) (e : r ≡ flatToken (tokenAt 
   has h f = ap (λ a. hasString (flatToken a .token)) (sym f) ∙ ap (λ y. hasString (y .token)) (sym e) ∙ sym g ∙ h
 
   pub string-at : {q : BsmPart} → b ≡ true → q ≡ part (r .start) (r .length) → PartTold s (stringOf (tokenAt s p)) (stringStart (tokenAt s p)) q
-  unfolding flatToken stringOf stringStart
+  unfolding flatToken tailIf startIf
   string-at {q} h z = go (tokenAt s p) refl (z ∙ ap (λ y. part (y .start) (y .length)) e)
     where
       go : (a : TokenAnswer) → tokenAt s p ≡ a → q ≡ part (flatToken a .start) (flatToken a .length) → PartTold s (stringOf a) (stringStart a) q
@@ -129,7 +155,7 @@ module _ (s : List ℕ) (p : ℕ) (r : FlatToken) (e : r ≡ flatToken (tokenAt 
       go (tokenRefusal i j k) f z = nothing-told s z
 
   pub string-none : {q : BsmPart} → b ≡ false → q ≡ part 0 0 → PartTold s (stringOf (tokenAt s p)) (stringStart (tokenAt s p)) q
-  unfolding stringOf stringStart
+  unfolding tailIf startIf
   string-none {q} h z = go (tokenAt s p) refl
     where
       go : (a : TokenAnswer) → tokenAt s p ≡ a → PartTold s (stringOf a) (stringStart a) q

@@ -3,7 +3,7 @@ use mathlib.Core.Path.{_≡_, sym, ap, _∙_}
 use mathlib.Core.List.{List}
 use Prim.Native.Nat.{ℕ}
 use Rattle.bsm_token.specs.declared.refusal.Refusal.{Refusal}
-use Rattle.bsm_item.specs.Meaning.{itemMeant, partMeant}
+use Rattle.bsm_item.specs.Meaning.{itemMeant, partMeant, addressMeant}
 use Rattle.bsm_item.specs.declared.item.Item.{Item as Found}
 use Rattle.bsm_back.specs.Meaning.{LocatedBack, backMeant}
 use Rattle.bsm_back.specs.declared.back.Before.{Before}
@@ -18,7 +18,7 @@ module _ (s : List ℕ) (p : ℕ) (x : Before) {o : LocatedBack} (e : backMeant 
   told : {y : Before} → x ≡ y → flatBack p (backMeant s y) ≡ flatBack p o
   told f = ap (flatBack p) (ap (backMeant s) (sym f) ∙ e)
 
-  pub back-record : {j : BsmItem} {q : BsmBefore} (i : Found) (k : ℕ) → x ≡ Record i k → ((t : List ℕ) → j ≡ flatFound (itemMeant t i) (partMeant i)) → q ≡ record { item = j; place = k } → q ≡ flatBack p o
+  pub back-record : {j : BsmItem} {q : BsmBefore} (i : Found) (k : ℕ) → x ≡ Record i k → ((t : List ℕ) → j ≡ flatFound (itemMeant t i) (partMeant i) (addressMeant i)) → q ≡ record { item = j; place = k } → q ≡ flatBack p o
   unfolding steppedBack
   back-record i k f h g = g ∙ ap (λ y. record { item = y; place = k }) (h s) ∙ told f
 

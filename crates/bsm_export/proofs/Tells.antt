@@ -11,12 +11,13 @@ use Rattle.bsm_field.specs.Number.{ifElse, field, fields, sum}
 use Rattle.bsm_token.specs.Layout.{rowOf, behind}
 use Rattle.bsm_token.specs.Token.{Token, Extent, tokenOf, extentOf, TokenAnswer, token, end as tokenEnd, refusal as tokenRefusal, tokenAt, Walk, tokens, refused as bad, walk}
 use Rattle.bsm_token.specs.Flat.{flatToken}
+use Rattle.bsm_token.specs.Demands.{TokenNumber}
 use Rattle.bsm_token.specs.declared.refusal.Refusal.{Refusal}
 use Rattle.bsm_token.proofs.Faults.{body-fault}
 use Rattle.bsm_token.proofs.Answers.{widths-few, behind-few}
 use Rattle.bsm_token.proofs.Reader.{token-at, token-numbers}
 use Rattle.bsm_item.specs.Item.{Item, fileItem, recordItem, Answer, item, end, short, refusal, itemAt}
-use Rattle.bsm_item.specs.Meaning.{partFor, located}
+use Rattle.bsm_item.specs.Meaning.{partFor, addressFor, located}
 use Rattle.bsm_item.specs.Reading.{State, Reading, answerAt, with, plain, stopOf}
 use Rattle.bsm_item.proofs.Longer.{refusal-numbers}
 use Rattle.bsm_item.proofs.Runs.{Stops, Reads, stops, goes, plain-reads}
@@ -24,11 +25,11 @@ use Rattle.bsm_back.specs.Back.{Back, found, boundary, refused, recordBefore}
 use Rattle.bsm_back.specs.Meaning.{locatedBack}
 use Rattle.bsm_back.proofs.Depends.{only-beyond}
 use Rattle.bsm_bytes.specs.Write.{Draft, code, Reply, wrote, denied, answerIn, Written}
-use Rattle.bsm_write.specs.Given.{tokenDraft}
-use Rattle.bsm_write.specs.Items.{fileDraft, recordDraft}
-use Rattle.bsm_write.specs.Demands.{Among}
+use Rattle.bsm_draft.specs.Given.{tokenDraft}
+use Rattle.bsm_draft.specs.Items.{fileDraft, recordDraft}
+use Rattle.bsm_draft.specs.Demands.{Among}
 use Rattle.bsm_bytes.specs.declared.answer.WriteAnswer.the-variants.{Refused}
-use Rattle.bsm_write.proofs.Refusals.{token-refusals, file-refusals, record-refusals}
+use Rattle.bsm_draft.proofs.Refusals.{token-refusals, file-refusals, record-refusals}
 use Rattle.bsm_listing.specs.Line.{itemLine}
 use Rattle.bsm_listing.specs.Listing.{Cursor, first, atState, done}
 use Rattle.bsm_export.specs.Items.{flatFound, flatAnswer, flatItem, stateAt, stoppedBy, flatOutcome}
@@ -41,7 +42,8 @@ use Rattle.bsm_export.specs.declared.answer.BsmWritten.{BsmWritten}
 -- ---- reading
 
 item-number : (s : List ℕ) (p e q n : ℕ) → itemAt s p ≡ refusal e q n → e ≢ 0
-item-number s p e q n f z = ⊎-elim (λ w. omega (arith, w .0)) (λ w. omega (arith, w .0)) (refusal-numbers s p e q n f .listed)
+item-number s p e q n f z =
+    ⊎-elim (λ w. omega (arith, w .0)) (λ w. ⊎-elim (λ x. omega (arith, x .0)) (λ x. omega arith) w) (refusal-numbers s p e q n f .listed)
 
 items-tell : (s : List ℕ) (p : ℕ) → (flatItem (located p (itemAt s p))) .number ≡ 0 → (flatItem (located p (itemAt s p))) .kind ≢ 3
 unfolding flatAnswer flatFound
@@ -61,11 +63,17 @@ backs-tell s p = go (recordBefore s p) refl
     go : (a : Back) → recordBefore s p ≡ a → (flatBack p (locatedBack a)) .item .number ≡ 0 → (flatBack p (locatedBack a)) .item .kind ≢ 3
     go (found i) e z k = of (i .what) z k
       where
-        of : (j : Item) → (flatFound j (partFor (i .place) (item (i .what)))) .number ≡ 0 → (flatFound j (partFor (i .place) (item (i .what)))) .kind ≢ 3
+        at : Answer
+        at = item (i .what)
+
+        of : (j : Item) → (flatFound j (partFor (i .place) at) (addressFor (i .place) at)) .number ≡ 0 → (flatFound j (partFor (i .place) at) (addressFor (i .place) at)) .kind ≢ 3
         of (fileItem n vs name) z k = omega arith
         of (recordItem n h b c) z k = omega arith
     go (boundary n) e z k = omega arith
     go (refused j q n) e z k = omega (arith, only-beyond s p j q n .0 e .1)
+
+token-number : {e : ℕ} → TokenNumber e → e ≢ 0
+token-number w z = ⊎-elim (λ x. omega (arith, x .0)) (λ x. omega arith) w
 
 tokens-tell : (s : List ℕ) (p : ℕ) → (flatToken (tokenAt s p)) .number ≡ 0 → (flatToken (tokenAt s p)) .kind ≢ 3
 unfolding flatToken
@@ -74,7 +82,7 @@ tokens-tell s p = go (tokenAt s p) refl
     go : (a : TokenAnswer) → tokenAt s p ≡ a → (flatToken a) .number ≡ 0 → (flatToken a) .kind ≢ 3
     go (token t x) e z k = omega arith
     go tokenEnd e z k = omega arith
-    go (tokenRefusal j q n) e z k = ⊎-elim (λ w. omega (arith, w .0)) (λ w. omega (arith, w .0)) (token-numbers s p j q n e .listed)
+    go (tokenRefusal j q n) e z k = ⊎-elim (λ w. omega (arith, w .0)) (λ w. token-number (w .0) z) (token-numbers s p j q n e .listed)
 
 -- no field of a token is left out
 length-fields : (ws : List ℕ) (k : ℕ) (s : List ℕ) → length (fields ws k s) ≡ length ws
@@ -99,7 +107,7 @@ bodies-tell s = go (walk s) refl
   where
     go : (w : Walk) → walk s ≡ w → (flatWalk w) .number ≡ 0 → w ≡ tokens ((flatWalk w) .written)
     go (tokens n) e z = refl
-    go (bad f) e z = absurd (omega (arith, body-fault s e .least))
+    go (bad f) e z = absurd (token-number (body-fault s e .number) z)
 
 -- a run stops at the answer that stands at its last state, which is no item
 stop-answer : {s : List ℕ} {st : State} {r : Reading} → Reads s st r → (answerAt s (r .state) ≡ r .answer) × Stops (r .answer)
@@ -189,11 +197,11 @@ numbers-tell =
       bodies = bodies-tell;
       runs = runs-tell;
       stepsBack = backs-tell;
-      ofTokens = λ number values g. tells (tokenDraft number values g) (λ d d′ f w. among-above (11 ∷ 8 ∷ 10 ∷ []) (f .number) (omega arith, (omega arith, (omega arith, tt))) (token-refusals number values g d d′ f w .number));
+      ofTokens = λ number values g. tells (tokenDraft number values g) (λ d d′ f w. among-above (13 ∷ 11 ∷ 8 ∷ 10 ∷ []) (f .number) (omega arith, (omega arith, (omega arith, (omega arith, tt)))) (token-refusals number values g d d′ f w .number));
       ofFiles = λ values name. tells (fileDraft values name) (λ d d′ f w. among-above (9 ∷ 8 ∷ 10 ∷ []) (f .number) (omega arith, (omega arith, (omega arith, tt))) (file-refusals values name d d′ f w .number));
       ofRecords = λ h body.
           tells (recordDraft h body)
-          (λ d d′ f w. ⊎-elim (λ o. among-above (4 ∷ 11 ∷ 9 ∷ 10 ∷ []) (f .number) (omega arith, (omega arith, (omega arith, (omega arith, tt)))) (o .number)) (λ b z. omega (arith, body-fault body (b .found) .least)) (record-refusals h body d d′ f w));
+          (λ d d′ f w. ⊎-elim (λ o. among-above (13 ∷ 4 ∷ 11 ∷ 9 ∷ 10 ∷ []) (f .number) (omega arith, (omega arith, (omega arith, (omega arith, (omega arith, tt))))) (o .number)) (λ b. token-number (body-fault body (b .found) .number)) (record-refusals h body d d′ f w));
       ofLines = lines-tell;
       ofItems = item-lines-tell;
       stages = stages-back;

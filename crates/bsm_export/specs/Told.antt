@@ -13,8 +13,8 @@ use Rattle.bsm_item.specs.Reading.{State, plain, stopOf}
 use Rattle.bsm_back.specs.Back.{recordBefore}
 use Rattle.bsm_back.specs.Meaning.{locatedBack}
 use Rattle.bsm_bytes.specs.Write.{Draft, code, wrote, answerIn}
-use Rattle.bsm_write.specs.Given.{Given, tokenDraft}
-use Rattle.bsm_write.specs.Items.{fileDraft, recordDraft}
+use Rattle.bsm_draft.specs.Given.{Given, tokenDraft}
+use Rattle.bsm_draft.specs.Items.{fileDraft, recordDraft}
 use Rattle.bsm_listing.specs.Listing.{Cursor}
 use Rattle.bsm_export.specs.Items.{flatItem, stateAt, flatOutcome}
 use Rattle.bsm_export.specs.Back.{flatBack}

@@ -3,12 +3,13 @@ ghost use mathlib.Core.Path.{_≡_};
 ghost use mathlib.Core.List.{List, [], _∷_};
 ghost use Prim.Native.Nat.{ℕ};
 ghost use Rattle.bsm_item.specs.Item.{itemAt};
-ghost use Rattle.bsm_item.specs.Meaning.{itemMeant, partMeant, located, readMeant};
-ghost use Rattle.bsm_export.specs.Items.{foundItem, noItem, flatFound, flatItem, PartTold, bodyOf, bodyStart, nameOf, nameStart};
+ghost use Rattle.bsm_item.specs.Meaning.{addressPart, itemMeant, partMeant, addressMeant, located, readMeant};
+ghost use Rattle.bsm_export.specs.Items.{foundItem, noItem, flatFound, flatItem, PartTold, bodyOf, bodyStart, nameOf, nameStart, addressTold, addressAt};
 use crate::answer::no_refusal;
 use bsm_item::item::Header;
 use bsm_item::item::Item;
 use bsm_item::item::ItemRead;
+use bsm_item::read::address_start;
 use bsm_item::read::item_at;
 use bsm_token::refusal::Refusal;
 
@@ -26,6 +27,8 @@ pub struct BsmItem {
     pub tokens: u64,
     pub start: u64,
     pub length: u64,
+    pub address_start: u64,
+    pub address_length: u64,
     pub number: u64,
     pub place: u64,
     pub need: u64,
@@ -40,7 +43,7 @@ pub struct BsmPart {
 
 // An item of a kind. A file token has no header but its times.
 fn found(kind: u64, size: usize, h: Header, tokens: usize, start: usize, length: usize) -> BsmItem
-    ensures { λ r. ⌜ r ≡ foundItem kind size (h .number) (h .version ∷ h .event ∷ h .modifier ∷ h .seconds ∷ h .nanoseconds ∷ []) tokens (record { start = start; length = length }) ⌝ }
+    ensures { λ r. ⌜ r ≡ foundItem kind size (h .number) (h .version ∷ h .event ∷ h .modifier ∷ h .seconds ∷ h .nanoseconds ∷ []) tokens (record { start = start; length = length }) (addressPart h start) ⌝ }
 {
     BsmItem {
         kind: kind,
@@ -54,6 +57,8 @@ fn found(kind: u64, size: usize, h: Header, tokens: usize, start: usize, length:
         tokens: tokens as u64,
         start: start as u64,
         length: length as u64,
+        address_start: address_start(h, start) as u64,
+        address_length: h.address as u64,
         number: 0,
         place: 0,
         need: 0,
@@ -76,6 +81,8 @@ pub(crate) fn no_item(kind: u64, f: Refusal) -> BsmItem
         tokens: 0,
         start: 0,
         length: 0,
+        address_start: 0,
+        address_length: 0,
         number: f.number as u64,
         place: f.place as u64,
         need: f.need as u64,
@@ -84,7 +91,7 @@ pub(crate) fn no_item(kind: u64, f: Refusal) -> BsmItem
 
 // An item, whatever trail it was read from.
 pub(crate) fn found_item(item: Item) -> BsmItem
-    ensures { λ r. ⌜ ((s : List ℕ) → r ≡ flatFound (itemMeant s item) (partMeant item)) ⌝ }
+    ensures { λ r. ⌜ ((s : List ℕ) → r ≡ flatFound (itemMeant s item) (partMeant item) (addressMeant item)) ⌝ }
 {
     match item {
         Item::File {
@@ -101,6 +108,7 @@ pub(crate) fn found_item(item: Item) -> BsmItem
                 version: 0,
                 event: 0,
                 modifier: 0,
+                address: 0,
                 seconds: seconds as u64,
                 nanoseconds: microseconds as u64,
             },
@@ -195,6 +203,33 @@ pub extern "C" fn bsm_name_at(trail: &[u8], place: usize) -> BsmPart
                 start: _,
                 length: _,
             } => part(0, 0),
+        },
+        ItemRead::End => part(0, 0),
+        ItemRead::Refused(_) => part(0, 0),
+    }
+}
+
+// Where the address of the record at a place stands.
+#[no_mangle]
+pub extern "C" fn bsm_address_at(trail: &[u8], place: usize) -> BsmPart
+    ensures { λ r. ⌜ PartTold (now (trail .entry)) (addressTold (itemAt (now (trail .entry)) place)) (addressAt place (itemAt (now (trail .entry)) place)) r ⌝ }
+{
+    match item_at(trail, place) {
+        ItemRead::Found(item) => match item {
+            Item::File {
+                size: _,
+                seconds: _,
+                microseconds: _,
+                start: _,
+                length: _,
+            } => part(0, 0),
+            Item::Record {
+                size: _,
+                header,
+                tokens: _,
+                start,
+                length: _,
+            } => part(address_start(header, start), header.address as usize),
         },
         ItemRead::End => part(0, 0),
         ItemRead::Refused(_) => part(0, 0),

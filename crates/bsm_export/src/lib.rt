@@ -1,6 +1,7 @@
 // The library for C and Rust: slices, numbers and structs of numbers only (include/bsm.h).
 pub mod answer;
 pub mod back;
+pub mod expanded;
 pub mod item;
 pub mod lines;
 pub mod party;

@@ -1,7 +1,7 @@
 // Writers of subject and process tokens, the port of 4 or of 8 bytes.
 ghost use mathlib.Core.List.{[], _∷_};
 ghost use Rattle.bsm_token.specs.Names.{process32Token, process64Token, subject32Token, subject64Token};
-ghost use Rattle.bsm_write.specs.Given.{nothing, tokenDraft};
+ghost use Rattle.bsm_draft.specs.Given.{nothing, tokenDraft};
 ghost use Rattle.bsm_export.specs.Written.{Exported};
 use crate::answer::BsmWritten;
 use crate::answer::flat;

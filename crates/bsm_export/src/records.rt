@@ -1,14 +1,16 @@
 // Writers of file tokens and of records.
 ghost use mathlib.Core.List.{[], _∷_};
-ghost use Rattle.bsm_token.specs.Names.{header32Token, header64Token};
-ghost use Rattle.bsm_write.specs.Items.{fileDraft, recordDraft};
+ghost use Rattle.bsm_token.specs.Names.{header32Token, header64Token, header32ExToken, header64ExToken};
+ghost use Rattle.bsm_draft.specs.Items.{fileDraft, recordDraft};
 ghost use Rattle.bsm_export.specs.Written.{Exported};
 use crate::answer::BsmWritten;
 use crate::answer::flat;
+use bsm_draft::header::HeaderFields;
+use bsm_record::record::write_record32;
+use bsm_record::record::write_record32_ex;
+use bsm_record::record::write_record64;
+use bsm_record::record::write_record64_ex;
 use bsm_write::file::write_file;
-use bsm_write::record::HeaderFields;
-use bsm_write::record::write_record32;
-use bsm_write::record::write_record64;
 
 #[no_mangle]
 pub extern "C" fn bsm_write_file(
@@ -32,7 +34,7 @@ pub extern "C" fn bsm_write_record32(
     nanoseconds: u64,
     body: &[u8],
 ) -> BsmWritten
-    ensures { λ r. ⌜ Exported (recordDraft (record { number = header32Token; values = version ∷ event ∷ modifier ∷ seconds ∷ nanoseconds ∷ [] }) (now (body .entry))) (now (dst .entry)) (now (dst .exit)) r ⌝ }
+    ensures { λ r. ⌜ Exported (recordDraft (record { number = header32Token; values = version ∷ event ∷ modifier ∷ seconds ∷ nanoseconds ∷ []; address = [] }) (now (body .entry))) (now (dst .entry)) (now (dst .exit)) r ⌝ }
 {
     flat(write_record32(
         dst,
@@ -57,7 +59,7 @@ pub extern "C" fn bsm_write_record64(
     nanoseconds: u64,
     body: &[u8],
 ) -> BsmWritten
-    ensures { λ r. ⌜ Exported (recordDraft (record { number = header64Token; values = version ∷ event ∷ modifier ∷ seconds ∷ nanoseconds ∷ [] }) (now (body .entry))) (now (dst .entry)) (now (dst .exit)) r ⌝ }
+    ensures { λ r. ⌜ Exported (recordDraft (record { number = header64Token; values = version ∷ event ∷ modifier ∷ seconds ∷ nanoseconds ∷ []; address = [] }) (now (body .entry))) (now (dst .entry)) (now (dst .exit)) r ⌝ }
 {
     flat(write_record64(
         dst,
@@ -68,6 +70,60 @@ pub extern "C" fn bsm_write_record64(
             seconds: seconds,
             nanoseconds: nanoseconds,
         },
+        body,
+    ))
+}
+
+#[no_mangle]
+pub extern "C" fn bsm_write_record32_ex(
+    dst: &mut [u8],
+    version: u16,
+    event: u16,
+    modifier: u16,
+    seconds: u64,
+    nanoseconds: u64,
+    address: &[u8],
+    body: &[u8],
+) -> BsmWritten
+    ensures { λ r. ⌜ Exported (recordDraft (record { number = header32ExToken; values = version ∷ event ∷ modifier ∷ seconds ∷ nanoseconds ∷ []; address = now (address .entry) }) (now (body .entry))) (now (dst .entry)) (now (dst .exit)) r ⌝ }
+{
+    flat(write_record32_ex(
+        dst,
+        HeaderFields {
+            version: version,
+            event: event,
+            modifier: modifier,
+            seconds: seconds,
+            nanoseconds: nanoseconds,
+        },
+        address,
+        body,
+    ))
+}
+
+#[no_mangle]
+pub extern "C" fn bsm_write_record64_ex(
+    dst: &mut [u8],
+    version: u16,
+    event: u16,
+    modifier: u16,
+    seconds: u64,
+    nanoseconds: u64,
+    address: &[u8],
+    body: &[u8],
+) -> BsmWritten
+    ensures { λ r. ⌜ Exported (recordDraft (record { number = header64ExToken; values = version ∷ event ∷ modifier ∷ seconds ∷ nanoseconds ∷ []; address = now (address .entry) }) (now (body .entry))) (now (dst .entry)) (now (dst .exit)) r ⌝ }
+{
+    flat(write_record64_ex(
+        dst,
+        HeaderFields {
+            version: version,
+            event: event,
+            modifier: modifier,
+            seconds: seconds,
+            nanoseconds: nanoseconds,
+        },
+        address,
         body,
     ))
 }

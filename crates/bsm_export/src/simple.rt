@@ -1,7 +1,7 @@
 // Writers of the other tokens that have values only.
 ghost use mathlib.Core.List.{[], _∷_};
 ghost use Rattle.bsm_token.specs.Names.{exitToken, inAddrToken, ipToken, ipcPermToken, iportToken, return32Token, return64Token, seqToken};
-ghost use Rattle.bsm_write.specs.Given.{nothing, tokenDraft};
+ghost use Rattle.bsm_draft.specs.Given.{nothing, tokenDraft};
 ghost use Rattle.bsm_export.specs.Written.{Exported};
 use crate::answer::BsmWritten;
 use crate::answer::flat;

@@ -1,7 +1,7 @@
 // Writers of opaque, newgroups and exec tokens.
 ghost use mathlib.Core.List.{[]};
 ghost use Rattle.bsm_token.specs.Names.{execArgsToken, execEnvToken, newgroupsToken, opaqueToken};
-ghost use Rattle.bsm_write.specs.Given.{someBytes, someGroups, someStrings, tokenDraft};
+ghost use Rattle.bsm_draft.specs.Given.{someBytes, someGroups, someStrings, tokenDraft};
 ghost use Rattle.bsm_export.specs.Written.{Exported};
 use crate::answer::BsmWritten;
 use crate::answer::flat;

@@ -1,7 +1,7 @@
 // Writers of tokens that have a text, given without its zero byte.
 ghost use mathlib.Core.List.{[], _∷_};
 ghost use Rattle.bsm_token.specs.Names.{arg32Token, arg64Token, pathToken, textToken};
-ghost use Rattle.bsm_write.specs.Given.{aText, tokenDraft};
+ghost use Rattle.bsm_draft.specs.Given.{aText, tokenDraft};
 ghost use Rattle.bsm_export.specs.Written.{Exported};
 use crate::answer::BsmWritten;
 use crate::answer::flat;
