@@ -1,9 +1,10 @@
 // The cases of paper 01, each with what the item reader answers, and what a reader does at that place; the last one is also read
 // whole by a run. The smallest records of both headers stand beside case 5, and beside case 9 one whose version has two bytes. Case
 // "path" has a body whose first token is a path; in the cases after it that path has a zero byte inside, a last byte that is not zero,
-// and no byte at all.
+// and no byte at all. The cases "ex" are of expanded headers and tokens; the bytes of their addresses are letters.
 use bsm_item::item::Item;
 use bsm_item::item::ItemRead;
+use bsm_item::read::address_of;
 use bsm_item::read::body_of;
 use bsm_item::read::item_at;
 use bsm_item::read::name_of;
@@ -40,7 +41,17 @@ fn body(b: &[u8]) {
     say(b"\"");
 }
 
-// An item: its size and fields, where its name or body stands, and the name or the body.
+// The address of an expanded header; nothing for another header.
+fn address(a: &[u8]) {
+    if a.len() == 0 {
+        return;
+    }
+    say(b"\t\"");
+    say(a);
+    say(b"\"");
+}
+
+// An item: its size and fields, where its name or body stands, and the name or the body; then a header's address.
 fn found(trail: &[u8], item: Item) {
     match item {
         Item::File {
@@ -78,6 +89,7 @@ fn found(trail: &[u8], item: Item) {
             number(start as u64);
             number(length as u64);
             body(body_of(trail, item));
+            address(address_of(trail, item));
         }
     }
 }
@@ -120,6 +132,42 @@ fn whole(name: &[u8], trail: &[u8]) {
         Ending::Refused(f) => refused(f),
     }
     say(b"\n");
+}
+
+fn expanded() {
+    case(b"ex", b"\x15\0\0\0\x21", 0);
+    case(b"ex less", b"\x15\0\0\0\x20", 0);
+    case(b"ex header64", b"\x79\0\0\0\x29", 0);
+    case(
+        b"ex of 4",
+        b"\x15\0\0\0\x21\x0b\0\x48\0\0\0\0\0\x04abcd\0\0\0\x01\0\0\0\x02\x13\xb1\x05\0\0\0\x21",
+        0,
+    );
+    case(
+        b"ex of 16",
+        b"\x15\0\0\0\x2d\x0b\0\x48\0\0\0\0\0\x10abcdefghijklmnop\0\0\0\x01\0\0\0\x02\x13\xb1\x05\0\0\0\x2d",
+        0,
+    );
+    case(
+        b"ex type",
+        b"\x15\0\0\0\x21\x0b\0\x48\0\0\0\0\0\x05abcd\0\0\0\x01\0\0\0\x02\x13\xb1\x05\0\0\0\x21",
+        0,
+    );
+    case(
+        b"ex of 16 less",
+        b"\x15\0\0\0\x21\x0b\0\x48\0\0\0\0\0\x10abcd\0\0\0\x01\0\0\0\x02\x13\xb1\x05\0\0\0\x21",
+        0,
+    );
+    case(
+        b"ex token",
+        b"\x15\0\0\0\x2a\x0b\0\x48\0\0\0\0\0\x04abcd\0\0\0\x01\0\0\0\x02\x7e\0\0\0\x04efgh\x13\xb1\x05\0\0\0\x2a",
+        0,
+    );
+    case(
+        b"ex token type",
+        b"\x15\0\0\0\x2a\x0b\0\x48\0\0\0\0\0\x04abcd\0\0\0\x01\0\0\0\x02\x7e\0\0\0\x05efgh\x13\xb1\x05\0\0\0\x2a",
+        0,
+    );
 }
 
 fn main() {
@@ -201,4 +249,5 @@ fn main() {
     case(b"17", last, 0);
     case(b"17", last, 13);
     whole(b"17", last);
+    expanded();
 }

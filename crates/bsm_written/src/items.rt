@@ -1,14 +1,14 @@
-// A file token and records: writing them, and printing their bytes.
-use crate::print::grouped;
+// A file token and records: writing them.
 use crate::print::say;
+use crate::read::count;
 use bsm_bytes::answer::WriteAnswer;
-use bsm_field::number::minus;
+use bsm_draft::header::HeaderFields;
+use bsm_record::record::write_record32;
+use bsm_record::record::write_record32_ex;
+use bsm_record::record::write_record64;
+use bsm_record::record::write_record64_ex;
 use bsm_token::part::part;
-use bsm_token::part::rest;
 use bsm_write::file::write_file;
-use bsm_write::record::HeaderFields;
-use bsm_write::record::write_record32;
-use bsm_write::record::write_record64;
 
 fn header() -> HeaderFields {
     HeaderFields {
@@ -20,39 +20,26 @@ fn header() -> HeaderFields {
     }
 }
 
-// Writes a file token; a record without a body, one with this body, or one with its first token and times of 8 bytes.
+// Writes a file token; a record without a body, one with this body, or one with its first token and times of 8 bytes; a record with an
+// address of 4 bytes and no body, or one with an address of 16, times of 8 and the first token.
 pub(crate) fn write_item<'a>(i: usize, dst: &mut [u8], body: &'a [u8]) -> WriteAnswer {
     match i {
         0 => write_file(dst, 5, 7, b"a"),
         1 => write_record32(dst, header(), b""),
         2 => write_record32(dst, header(), body),
-        _ => write_record64(dst, header(), part(body, 0, 15)),
+        3 => write_record64(dst, header(), part(body, 0, 15)),
+        4 => write_record32_ex(dst, header(), b"\xC0\0\x02\x01", b""),
+        _ => write_record64_ex(
+            dst,
+            header(),
+            b"\x20\x01\x0D\xB8\0\0\0\0\0\0\0\0\0\0\0\x01",
+            part(body, 0, 15),
+        ),
     }
 }
 
-// Prints the bytes of a record, header and trailer parted into their fields.
-fn record<'a>(widths: &'a [u8], bytes: &'a [u8]) {
-    let trailer = minus(bytes.len(), 7);
-    grouped(part(bytes, 0, trailer), widths);
-    grouped(rest(bytes, trailer), b"\x01\x02\x04");
-    say(b"\n");
-}
-
-// Prints the bytes of the item i.
-pub(crate) fn print_item(i: usize, bytes: &[u8]) {
-    match i {
-        0 => {
-            say(b"file\n  wrote");
-            grouped(bytes, b"\x01\x04\x04\x02");
-            say(b"\n");
-        }
-        1 | 2 => {
-            say(b"record32\n  wrote");
-            record(b"\x01\x04\x01\x02\x02\x04\x04", bytes);
-        }
-        _ => {
-            say(b"record64\n  wrote");
-            record(b"\x01\x04\x01\x02\x02\x08\x08", bytes);
-        }
-    }
+// A write that is refused: an address of 5 bytes.
+pub(crate) fn five(dst: &mut [u8]) {
+    say(b"record32_ex, an address of 5 bytes\n  ");
+    count(write_record32_ex(dst, header(), b"\x01\x02\x03\x04\x05", b""));
 }

@@ -5,6 +5,7 @@ use crate::print::say;
 use bsm_bytes::answer::WriteAnswer;
 use bsm_item::item::Item;
 use bsm_item::item::ItemRead;
+use bsm_item::read::address_of;
 use bsm_item::read::body_of;
 use bsm_item::read::item_at;
 use bsm_item::read::name_of;
@@ -14,6 +15,8 @@ use bsm_kinds::token::token_at;
 use bsm_token::kind::IpHeader;
 use bsm_token::kind::Party32;
 use bsm_token::kind::Party64;
+use bsm_token::kind::PartyEx32;
+use bsm_token::kind::PartyEx64;
 use bsm_token::kind::Permissions;
 use bsm_token::part::part;
 use bsm_token::refusal::Refusal;
@@ -53,6 +56,26 @@ fn party64(p: Party64) {
     );
     three(p.real_user as u64, p.real_group as u64, p.process as u64);
     three(p.session as u64, p.port, p.address as u64);
+}
+
+fn party_ex32(p: PartyEx32) {
+    three(
+        p.audit as u64,
+        p.effective_user as u64,
+        p.effective_group as u64,
+    );
+    three(p.real_user as u64, p.real_group as u64, p.process as u64);
+    two(p.session as u64, p.port as u64);
+}
+
+fn party_ex64(p: PartyEx64) {
+    three(
+        p.audit as u64,
+        p.effective_user as u64,
+        p.effective_group as u64,
+    );
+    three(p.real_user as u64, p.real_group as u64, p.process as u64);
+    two(p.session as u64, p.port);
 }
 
 fn ip(h: IpHeader) {
@@ -99,10 +122,27 @@ fn fields(t: Token) {
         Token::Return64 { error, value } => two(error as u64, value),
         Token::Subject64(p) => party64(p),
         Token::Process64(p) => party64(p),
+        Token::Subject32Ex { party, length } => {
+            party_ex32(party);
+            number(length as u64);
+        }
+        Token::Process32Ex { party, length } => {
+            party_ex32(party);
+            number(length as u64);
+        }
+        Token::Subject64Ex { party, length } => {
+            party_ex64(party);
+            number(length as u64);
+        }
+        Token::Process64Ex { party, length } => {
+            party_ex64(party);
+            number(length as u64);
+        }
+        Token::InAddrEx { length } => number(length as u64),
     }
 }
 
-// The token at a place of a body: its size, its fields, and its text, bytes, groups or strings.
+// The token at a place of a body: its size, its fields, and its text, bytes, groups, strings or address.
 pub(crate) fn token_back(body: &[u8], at: usize) {
     say(b"  read");
     match token_at(body, at) {
@@ -151,6 +191,7 @@ fn found(trail: &[u8], item: Item) {
                 header.event as u64,
                 header.modifier as u64,
             );
+            hex(address_of(trail, item));
             two(header.seconds, header.nanoseconds);
             say(b", tokens");
             two(tokens as u64, body_of(trail, item).len() as u64);

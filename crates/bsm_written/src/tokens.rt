@@ -1,12 +1,18 @@
-// A token of each kind: writing it, and printing its bytes.
-use crate::print::grouped;
-use crate::print::say;
+// A token of each kind: writing it.
 use bsm_bytes::answer::WriteAnswer;
 use bsm_token::kind;
 use bsm_token::kind::IpHeader;
 use bsm_token::kind::Party32;
 use bsm_token::kind::Party64;
+use bsm_token::kind::PartyEx32;
+use bsm_token::kind::PartyEx64;
 use bsm_token::kind::Permissions;
+use bsm_token::part::part;
+use bsm_write::expanded::write_in_addr_ex;
+use bsm_write::expanded::write_process32_ex;
+use bsm_write::expanded::write_process64_ex;
+use bsm_write::expanded::write_subject32_ex;
+use bsm_write::expanded::write_subject64_ex;
 use bsm_write::simple::write_exit;
 use bsm_write::simple::write_in_addr;
 use bsm_write::simple::write_ip;
@@ -56,6 +62,32 @@ fn party64() -> Party64 {
     }
 }
 
+fn party_ex32() -> PartyEx32 {
+    PartyEx32 {
+        audit: 1001,
+        effective_user: 0,
+        effective_group: 20,
+        real_user: 1001,
+        real_group: 20,
+        process: 4711,
+        session: 4294967295,
+        port: 22,
+    }
+}
+
+fn party_ex64() -> PartyEx64 {
+    PartyEx64 {
+        audit: 1001,
+        effective_user: 0,
+        effective_group: 20,
+        real_user: 1001,
+        real_group: 20,
+        process: 4711,
+        session: 4294967295,
+        port: 0x0102030405060708,
+    }
+}
+
 fn ip() -> IpHeader {
     IpHeader {
         version: 0x45,
@@ -83,6 +115,19 @@ fn permissions() -> Permissions {
     }
 }
 
+// Writes an expanded token with this number; each length of an address has its turn.
+fn write_expanded(number: u8, dst: &mut [u8]) -> WriteAnswer {
+    let long = b"\x20\x01\x0D\xB8\0\0\0\0\0\0\0\0\0\0\0\x01";
+    let short = part(long, 0, 4);
+    match number {
+        kind::SUBJECT32_EX => write_subject32_ex(dst, party_ex32(), short),
+        kind::PROCESS32_EX => write_process32_ex(dst, party_ex32(), long),
+        kind::SUBJECT64_EX => write_subject64_ex(dst, party_ex64(), long),
+        kind::PROCESS64_EX => write_process64_ex(dst, party_ex64(), short),
+        _ => write_in_addr_ex(dst, long),
+    }
+}
+
 // Writes a token with this number.
 pub(crate) fn write_kind(number: u8, dst: &mut [u8]) -> WriteAnswer {
     match number {
@@ -105,61 +150,7 @@ pub(crate) fn write_kind(number: u8, dst: &mut [u8]) -> WriteAnswer {
         kind::ARG64 => write_arg64(dst, 3, 18446744073709551615, b"offset"),
         kind::RETURN64 => write_return64(dst, 0, 256),
         kind::SUBJECT64 => write_subject64(dst, party64()),
-        _ => write_process64(dst, party64()),
+        kind::PROCESS64 => write_process64(dst, party64()),
+        _ => write_expanded(number, dst),
     }
-}
-
-// Prints the name of the token with this number.
-fn print_name(number: u8) {
-    match number {
-        kind::PATH => say(b"path"),
-        kind::SUBJECT32 => say(b"subject32"),
-        kind::PROCESS32 => say(b"process32"),
-        kind::RETURN32 => say(b"return32"),
-        kind::TEXT => say(b"text"),
-        kind::OPAQUE => say(b"opaque"),
-        kind::IN_ADDR => say(b"in_addr"),
-        kind::IP => say(b"ip"),
-        kind::IPORT => say(b"iport"),
-        kind::ARG32 => say(b"arg32"),
-        kind::SEQ => say(b"seq"),
-        kind::IPC_PERM => say(b"ipc_perm"),
-        kind::NEWGROUPS => say(b"newgroups"),
-        kind::EXEC_ARGS => say(b"exec_args"),
-        kind::EXEC_ENV => say(b"exec_env"),
-        kind::EXIT => say(b"exit"),
-        kind::ARG64 => say(b"arg64"),
-        kind::RETURN64 => say(b"return64"),
-        kind::SUBJECT64 => say(b"subject64"),
-        _ => say(b"process64"),
-    }
-}
-
-// Prints the bytes of the token with this number, parted into its fields.
-fn print_bytes(number: u8, bytes: &[u8]) {
-    match number {
-        kind::PATH | kind::TEXT | kind::OPAQUE | kind::IPORT => grouped(bytes, b"\x01\x02"),
-        kind::SUBJECT32 | kind::PROCESS32 => grouped(
-            bytes,
-            b"\x01\x04\x04\x04\x04\x04\x04\x04\x04\x04",
-        ),
-        kind::RETURN32 => grouped(bytes, b"\x01\x01\x04"),
-        kind::IN_ADDR | kind::SEQ | kind::EXEC_ARGS | kind::EXEC_ENV => grouped(bytes, b"\x01\x04"),
-        kind::IP => grouped(bytes, b"\x01\x01\x01\x02\x02\x02\x01\x01\x02\x04\x04"),
-        kind::ARG32 => grouped(bytes, b"\x01\x01\x04\x02"),
-        kind::IPC_PERM => grouped(bytes, b"\x01\x04\x04\x04\x04\x04\x04\x04"),
-        kind::NEWGROUPS => grouped(bytes, b"\x01\x02\x04\x04\x04"),
-        kind::EXIT => grouped(bytes, b"\x01\x04\x04"),
-        kind::ARG64 => grouped(bytes, b"\x01\x01\x08\x02"),
-        kind::RETURN64 => grouped(bytes, b"\x01\x01\x08"),
-        _ => grouped(bytes, b"\x01\x04\x04\x04\x04\x04\x04\x04\x08\x04"),
-    }
-}
-
-// Prints the name and the bytes of the token with this number.
-pub(crate) fn print_kind(number: u8, bytes: &[u8]) {
-    print_name(number);
-    say(b"\n  wrote");
-    print_bytes(number, bytes);
-    say(b"\n");
 }

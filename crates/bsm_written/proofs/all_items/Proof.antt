@@ -10,7 +10,7 @@ abbrev Inv-loop : tie.InvT-loop
 Inv-loop space₀ from body at₀ i₀ space at i = (at ≤ length space) × (length space ≡ length space₀)
 
 abbrev μ-loop : tie.MeasureT-loop
-μ-loop space₀ from body at₀ i₀ space at i = 4 - i
+μ-loop space₀ from body at₀ i₀ space at i = 6 - i
 
 pub all-items-spec : {M : Type 1} → statement M
 all-items-spec =
@@ -25,6 +25,7 @@ all-items-spec =
     (λ c κs. search needs)
     (λ c κs. search needs)
     (λ c κs. search needs)
+    (λ c. search needs)
     (λ c κs. search needs)
     (λ c κs. search needs)
     (λ c κs. search needs)

@@ -10,7 +10,7 @@ abbrev Inv-loop : tie.InvT-loop
 Inv-loop space₀ kinds at₀ i₀ space at i = (at ≤ length space) × (length space ≡ length space₀)
 
 abbrev μ-loop : tie.MeasureT-loop
-μ-loop space₀ kinds at₀ i₀ space at i = 20 - i
+μ-loop space₀ kinds at₀ i₀ space at i = 25 - i
 
 pub all-tokens-spec : {M : Type 1} → statement M
 all-tokens-spec =
