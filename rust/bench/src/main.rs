@@ -58,27 +58,34 @@ fn main() -> ExitCode {
 
     let small = generator::small_records(BYTES);
     let usual = generator::usual_records(BYTES);
+    let expanded = generator::expanded_records(BYTES);
     let exec = generator::large_exec(BYTES);
     let opaque = generator::large_opaque(BYTES);
     let long = generator::usual_records(MANY_BYTES);
     let loads = vec![
         read::run("run, small records", &small),
         read::run("run, usual records", &usual),
+        read::run("run, expanded records", &expanded),
         read::run("run, large exec_env", &exec),
         read::run("run, large opaque", &opaque),
         read::items("items, small records", &small),
         read::items("items, usual records", &usual),
+        read::items("items, expanded records", &expanded),
         newest::load("newest, small records", &small, usize::MAX),
         newest::load("newest, usual records", &usual, usize::MAX),
+        newest::load("newest, expanded records", &expanded, usize::MAX),
         newest::load("newest 100 of 4 MB", &usual, 100),
         newest::load("newest 100 of 64 MB", &long, 100),
         newest::forward("100 of 64 MB, forward", &long, 100),
         tokens::load("tokens, usual records", &usual),
+        tokens::load("tokens, expanded records", &expanded),
         tokens::load("tokens, large exec_env", &exec),
         write::load("write, usual records", &usual),
+        write::load("write, expanded records", &expanded),
         write::load("write, large exec_env", &exec),
         list::load("list, small records", &small),
         list::load("list, usual records", &usual),
+        list::load("list, expanded records", &expanded),
     ];
 
     println!("{ABOUT}\n\n{rounds} rounds\n");

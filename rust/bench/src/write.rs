@@ -3,6 +3,8 @@
 use crate::workload::Workload;
 use reference::{TokenAnswer, WriteToken};
 use std::hint::black_box;
+use std::iter;
+use std::net::IpAddr;
 
 /// Room for a body at the buffer's start; records are written behind it.
 const BODY: usize = 65_536;
@@ -10,12 +12,14 @@ const BODY: usize = 65_536;
 /// A record to be written by the proved library.
 struct Proved<'a> {
     header: bsm::Header,
+    /// The address in an expanded header.
+    address: Option<IpAddr>,
     tokens: Vec<bsm::NewToken<'a>>,
 }
 
 /// A record to be written by the reference.
 struct Plain<'a> {
-    header: reference::Header,
+    header: reference::Header<'a>,
     tokens: Vec<WriteToken<'a>>,
 }
 
@@ -36,7 +40,12 @@ pub fn load<'a>(name: &'static str, trail: &'a [u8]) -> Workload<'a> {
                 size += bsm::write_token(&mut body[size..], token).unwrap_or(0);
             }
             let dst = &mut records[used..];
-            used += bsm::write_record(dst, &record.header, &body[..size]).unwrap_or(0);
+            let (header, body) = (&record.header, &body[..size]);
+            let written = match record.address {
+                None => bsm::write_record(dst, header, body),
+                Some(address) => bsm::write_record_ex(dst, header, address, body),
+            };
+            used += written.unwrap_or(0);
         }
         digest(records, used)
     };
@@ -77,17 +86,26 @@ fn proved_records(trail: &[u8]) -> Vec<Proved<'_>> {
     let items = bsm::Items::new(trail, bsm::State::default());
     items
         .filter_map(|item| match item {
-            Ok((_, bsm::Item::Record { header, body, .. })) => Some(Proved {
+            Ok((place, bsm::Item::Record { header, body, .. })) => Some(Proved {
                 header,
-                tokens: bsm::tokens(body)
-                    .map_while(Result::ok)
-                    // None of the workloads has groups.
-                    .map(|token| token.map_groups(|_| &[][..]))
-                    .collect(),
+                address: bsm::address_at(trail, place),
+                tokens: proved_tokens(body),
             }),
             _ => None,
         })
         .collect()
+}
+
+/// The tokens of a body of the workloads, none of which has groups.
+fn proved_tokens(body: &[u8]) -> Vec<bsm::NewToken<'_>> {
+    let mut tokens = bsm::tokens(body);
+    let next = || {
+        let place = tokens.place();
+        let token = tokens.next()?.ok()?;
+        let address = || bsm::token_address_at(body, place).expect("it is expanded");
+        Some(token.map(|_| &[][..], |()| address()))
+    };
+    iter::from_fn(next).collect()
 }
 
 fn plain_records(trail: &[u8]) -> Vec<Plain<'_>> {
@@ -113,6 +131,8 @@ fn plain_tokens(body: &[u8]) -> Vec<WriteToken<'_>> {
             reference::Token::Path { text } => WriteToken::Path { text },
             reference::Token::Text { text } => WriteToken::Text { text },
             reference::Token::Subject32(party) => WriteToken::Subject32(party),
+            reference::Token::Subject32Ex(party) => WriteToken::Subject32Ex(party),
+            reference::Token::Subject64Ex(party) => WriteToken::Subject64Ex(party),
             reference::Token::Return32 { error, value } => WriteToken::Return32 { error, value },
             reference::Token::ExecEnv { count, strings } => WriteToken::ExecEnv { count, strings },
             other => unreachable!("no workload has {other:?}"),

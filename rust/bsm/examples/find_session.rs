@@ -18,6 +18,8 @@ fn party(token: &Token<'_>) -> Option<(u32, u32)> {
     match token {
         Token::Subject32(party) | Token::Process32(party) => Some((party.audit, party.session)),
         Token::Subject64(party) | Token::Process64(party) => Some((party.audit, party.session)),
+        Token::Subject32Ex(party) | Token::Process32Ex(party) => Some((party.audit, party.session)),
+        Token::Subject64Ex(party) | Token::Process64Ex(party) => Some((party.audit, party.session)),
         _ => None,
     }
 }

@@ -110,6 +110,7 @@
 #[cfg(not(target_pointer_width = "64"))]
 compile_error!("the archive of the proved library is for 64-bit machines");
 
+mod address;
 mod back;
 mod item;
 mod listing;
@@ -125,12 +126,12 @@ mod unfit;
 mod write;
 
 pub use back::{record_before, Before, Newest};
-pub use item::{body_at, item_at, name_at, Header, HeaderKind, Item};
+pub use item::{address_at, body_at, item_at, name_at, Header, HeaderKind, Item};
 pub use listing::{first_line, item_line, last_line, list, Cursor, Listed, LINE_MAX};
 pub use parts::{Groups, Strings};
 pub use reader::{Items, Reader};
 pub use refusal::{Reason, Refusal};
 pub use state::{next, run, Run, State, Step};
 pub use token::{IpHeader, IpcPerm, NewToken, Party, Token};
-pub use token_read::{text_at, token_at, tokens, walk_body, TokenAt, Tokens};
-pub use write::{write_file, write_record, write_token};
+pub use token_read::{text_at, token_address_at, token_at, tokens, walk_body, TokenAt, Tokens};
+pub use write::{write_file, write_record, write_record_ex, write_token};

@@ -46,12 +46,19 @@ pub enum Reason {
     NoRoom = 10,
     /// 11: a value that its field cannot hold: a text, an opaque or groups too
     /// long, a record's version over 255, or times over 32 bits for a
-    /// header32.
+    /// header32 or a header32_ex.
     TooLarge = 11,
+    /// 13: the type of an address is neither 4 nor 16. [`Refusal::place`] is
+    /// the start of what has it: the item's for a header, the token's for a
+    /// token. Since an address to be written has one of the two lengths, a
+    /// writer gives it for the body of a record alone, and
+    /// [`write_record`](crate::write_record) for an expanded header, to which
+    /// no address is given.
+    AddressType = 13,
 }
 
 impl Reason {
-    /// The refusal's number, 1 to 11.
+    /// The refusal's number, 1 to 11 or 13.
     #[inline]
     pub const fn number(self) -> u8 {
         self as u8
@@ -72,6 +79,7 @@ impl Reason {
             9 => Reason::TimeRange,
             10 => Reason::NoRoom,
             11 => Reason::TooLarge,
+            13 => Reason::AddressType,
             _ => unfit("refusal", number),
         }
     }
@@ -91,6 +99,7 @@ impl fmt::Display for Reason {
             Reason::TimeRange => "microseconds or nanoseconds out of range",
             Reason::NoRoom => "destination too small",
             Reason::TooLarge => "value too large for its field",
+            Reason::AddressType => "address type neither 4 nor 16",
         })
     }
 }
@@ -106,6 +115,10 @@ impl fmt::Display for Reason {
 /// let file = b"\x11\0\0\0\x05\0\0\0\x07\0\x04a\0b\0";
 /// let bad = bsm::item_at(file, 0).unwrap_err();
 /// assert_eq!((bad.reason, bad.place), (bsm::Reason::BadText, 12));
+///
+/// // An in_addr_ex token behind an iport, with a type of 6.
+/// let bad = bsm::walk_body(b"\x2c\0\x16\x7e\0\0\0\x06abcdef").unwrap_err();
+/// assert_eq!(bad.to_string(), "refusal 13 at 3: address type neither 4 nor 16");
 /// ```
 #[derive(Clone, Copy, Debug, PartialEq, Eq, Hash)]
 pub struct Refusal {

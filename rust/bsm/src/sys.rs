@@ -34,6 +34,8 @@ pub struct bsm_item {
     pub tokens: u64,
     pub start: u64,
     pub length: u64,
+    pub address_start: u64,
+    pub address_length: u64,
     pub number: u64,
     pub place: u64,
     pub need: u64,
@@ -111,6 +113,7 @@ extern "C" {
     pub fn bsm_item_at(trail: *const u8, length: usize, place: usize) -> bsm_item;
     pub fn bsm_body_at(trail: *const u8, length: usize, place: usize) -> bsm_part;
     pub fn bsm_name_at(trail: *const u8, length: usize, place: usize) -> bsm_part;
+    pub fn bsm_address_at(trail: *const u8, length: usize, place: usize) -> bsm_part;
     pub fn bsm_next(
         trail: *const u8,
         length: usize,
@@ -194,9 +197,71 @@ extern "C" {
         port: u64,
         address: u32,
     ) -> bsm_written;
+    pub fn bsm_write_subject32_ex(
+        dst: *mut u8,
+        room: usize,
+        audit: u32,
+        effective_user: u32,
+        effective_group: u32,
+        real_user: u32,
+        real_group: u32,
+        process: u32,
+        session: u32,
+        port: u32,
+        address: *const u8,
+        length: usize,
+    ) -> bsm_written;
+    pub fn bsm_write_process32_ex(
+        dst: *mut u8,
+        room: usize,
+        audit: u32,
+        effective_user: u32,
+        effective_group: u32,
+        real_user: u32,
+        real_group: u32,
+        process: u32,
+        session: u32,
+        port: u32,
+        address: *const u8,
+        length: usize,
+    ) -> bsm_written;
+    pub fn bsm_write_subject64_ex(
+        dst: *mut u8,
+        room: usize,
+        audit: u32,
+        effective_user: u32,
+        effective_group: u32,
+        real_user: u32,
+        real_group: u32,
+        process: u32,
+        session: u32,
+        port: u64,
+        address: *const u8,
+        length: usize,
+    ) -> bsm_written;
+    pub fn bsm_write_process64_ex(
+        dst: *mut u8,
+        room: usize,
+        audit: u32,
+        effective_user: u32,
+        effective_group: u32,
+        real_user: u32,
+        real_group: u32,
+        process: u32,
+        session: u32,
+        port: u64,
+        address: *const u8,
+        length: usize,
+    ) -> bsm_written;
     pub fn bsm_write_return32(dst: *mut u8, room: usize, error: u8, value: u32) -> bsm_written;
     pub fn bsm_write_return64(dst: *mut u8, room: usize, error: u8, value: u64) -> bsm_written;
     pub fn bsm_write_in_addr(dst: *mut u8, room: usize, address: u32) -> bsm_written;
+    pub fn bsm_write_in_addr_ex(
+        dst: *mut u8,
+        room: usize,
+        address: *const u8,
+        length: usize,
+    ) -> bsm_written;
     pub fn bsm_write_ip(
         dst: *mut u8,
         room: usize,
@@ -288,6 +353,32 @@ extern "C" {
         modifier: u16,
         seconds: u64,
         nanoseconds: u64,
+        body: *const u8,
+        length: usize,
+    ) -> bsm_written;
+    pub fn bsm_write_record32_ex(
+        dst: *mut u8,
+        room: usize,
+        version: u16,
+        event: u16,
+        modifier: u16,
+        seconds: u64,
+        nanoseconds: u64,
+        address: *const u8,
+        address_length: usize,
+        body: *const u8,
+        length: usize,
+    ) -> bsm_written;
+    pub fn bsm_write_record64_ex(
+        dst: *mut u8,
+        room: usize,
+        version: u16,
+        event: u16,
+        modifier: u16,
+        seconds: u64,
+        nanoseconds: u64,
+        address: *const u8,
+        address_length: usize,
         body: *const u8,
         length: usize,
     ) -> bsm_written;

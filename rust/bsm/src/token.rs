@@ -1,11 +1,15 @@
-//! The twenty body tokens, as read and as given to the writer.
+//! The twenty-five body tokens, as read and as given to the writer.
 
 use crate::parts::{Groups, Strings};
+use core::net::IpAddr;
 
 /// Who acts (subject) or is acted on (process). `P` is the port's type,
-/// `u32` or `u64`.
+/// `u32` or `u64`; `A` the address's, `u32`; in expanded tokens `()` where
+/// one was read, whose address
+/// [`token_address_at`](crate::token_address_at) tells, and [`IpAddr`] where
+/// one is to be written.
 #[derive(Clone, Copy, Debug, PartialEq, Eq, Hash)]
-pub struct Party<P> {
+pub struct Party<P, A = u32> {
     /// Audit user.
     pub audit: u32,
     /// Effective user.
@@ -23,7 +27,24 @@ pub struct Party<P> {
     /// Terminal port.
     pub port: P,
     /// Terminal machine address.
-    pub address: u32,
+    pub address: A,
+}
+
+impl<P, A> Party<P, A> {
+    /// The same with its address held in another way.
+    fn map_address<B>(self, held: impl FnOnce(A) -> B) -> Party<P, B> {
+        Party {
+            audit: self.audit,
+            effective_user: self.effective_user,
+            effective_group: self.effective_group,
+            real_user: self.real_user,
+            real_group: self.real_group,
+            process: self.process,
+            session: self.session,
+            port: self.port,
+            address: held(self.address),
+        }
+    }
 }
 
 /// The fields of an ip token.
@@ -73,9 +94,13 @@ pub struct IpcPerm {
 /// A body token. One that was read borrows its texts, bytes, groups and
 /// strings from the body; one to be written is a [`NewToken`]. Later
 /// versions may have more kinds.
+///
+/// The address of an expanded token that was read is not in it:
+/// [`token_address_at`](crate::token_address_at) tells it. So tokens, which
+/// each step of an iterator copies, are no larger than the other kinds need.
 #[derive(Clone, Copy, Debug, PartialEq, Eq, Hash)]
 #[non_exhaustive]
-pub enum Token<'a, G = Groups<'a>> {
+pub enum Token<'a, G = Groups<'a>, A = ()> {
     /// 23, path.
     Path {
         /// The path without its zero byte.
@@ -166,12 +191,26 @@ pub enum Token<'a, G = Groups<'a>> {
     Subject64(Party<u64>),
     /// 77, process64.
     Process64(Party<u64>),
+    /// 7A, subject32_ex.
+    Subject32Ex(Party<u32, A>),
+    /// 7B, process32_ex.
+    Process32Ex(Party<u32, A>),
+    /// 7C, subject64_ex.
+    Subject64Ex(Party<u64, A>),
+    /// 7D, process64_ex.
+    Process64Ex(Party<u64, A>),
+    /// 7E, in_addr_ex.
+    InAddrEx {
+        /// Address, as in [`Party`].
+        address: A,
+    },
 }
 
-/// A body token to be written; its groups are numbers.
-pub type NewToken<'a> = Token<'a, &'a [u32]>;
+/// A body token to be written; its groups are numbers, and its address is an
+/// [`IpAddr`].
+pub type NewToken<'a> = Token<'a, &'a [u32], IpAddr>;
 
-impl<'a, G> Token<'a, G> {
+impl<'a, G, A> Token<'a, G, A> {
     /// The token number.
     pub const fn number(&self) -> u8 {
         match self {
@@ -195,29 +234,45 @@ impl<'a, G> Token<'a, G> {
             Token::Return64 { .. } => 0x72,
             Token::Subject64(_) => 0x75,
             Token::Process64(_) => 0x77,
+            Token::Subject32Ex(_) => 0x7A,
+            Token::Process32Ex(_) => 0x7B,
+            Token::Subject64Ex(_) => 0x7C,
+            Token::Process64Ex(_) => 0x7D,
+            Token::InAddrEx { .. } => 0x7E,
         }
     }
 
-    /// The same token with its groups held in another way, as for writing a
-    /// token that was read.
+    /// The same token with its groups and the address of an expanded one held
+    /// in another way, as for writing a token that was read. Each function is
+    /// called only where the token has such a part.
     ///
     /// ```
-    /// use bsm::{token_at, write_token, NewToken};
+    /// use bsm::{token_address_at, tokens, write_token, NewToken};
     ///
-    /// let body = b"\x3b\0\x02\0\0\0\x0a\0\0\0\x14";
-    /// let read = token_at(body, 0)?.unwrap();
-    ///
-    /// let mut groups = Vec::new();
-    /// let new: NewToken = read.token.map_groups(|read| {
-    ///     groups.extend(read);
-    ///     &groups[..]
-    /// });
-    /// let mut again = [0; 11];
-    /// assert_eq!(write_token(&mut again, &new)?, read.size);
+    /// // Two groups, and an address of four bytes.
+    /// let body = b"\x3b\0\x02\0\0\0\x0a\0\0\0\x14\x7e\0\0\0\x04\xc0\0\x02\x07";
+    /// let mut again = [0; 20];
+    /// let mut used = 0;
+    /// for token in tokens(body) {
+    ///     let mut groups = Vec::new();
+    ///     let new: NewToken = token?.map(
+    ///         |read| {
+    ///             groups.extend(read);
+    ///             &groups[..]
+    ///         },
+    ///         // All before it was written, so that it stands at the same place.
+    ///         |()| token_address_at(body, used).unwrap(),
+    ///     );
+    ///     used += write_token(&mut again[used..], &new)?;
+    /// }
     /// assert_eq!(&again, body);
     /// # Ok::<(), bsm::Refusal>(())
     /// ```
-    pub fn map_groups<H>(self, held: impl FnOnce(G) -> H) -> Token<'a, H> {
+    pub fn map<H, B>(
+        self,
+        groups_held: impl FnOnce(G) -> H,
+        address_held: impl FnOnce(A) -> B,
+    ) -> Token<'a, H, B> {
         match self {
             Token::Path { text } => Token::Path { text },
             Token::Subject32(party) => Token::Subject32(party),
@@ -240,7 +295,7 @@ impl<'a, G> Token<'a, G> {
             Token::Seq { sequence } => Token::Seq { sequence },
             Token::IpcPerm(fields) => Token::IpcPerm(fields),
             Token::NewGroups { groups } => Token::NewGroups {
-                groups: held(groups),
+                groups: groups_held(groups),
             },
             Token::ExecArgs(strings) => Token::ExecArgs(strings),
             Token::ExecEnv(strings) => Token::ExecEnv(strings),
@@ -257,6 +312,13 @@ impl<'a, G> Token<'a, G> {
             Token::Return64 { error, value } => Token::Return64 { error, value },
             Token::Subject64(party) => Token::Subject64(party),
             Token::Process64(party) => Token::Process64(party),
+            Token::Subject32Ex(party) => Token::Subject32Ex(party.map_address(address_held)),
+            Token::Process32Ex(party) => Token::Process32Ex(party.map_address(address_held)),
+            Token::Subject64Ex(party) => Token::Subject64Ex(party.map_address(address_held)),
+            Token::Process64Ex(party) => Token::Process64Ex(party.map_address(address_held)),
+            Token::InAddrEx { address } => Token::InAddrEx {
+                address: address_held(address),
+            },
         }
     }
 }

@@ -1,5 +1,6 @@
 //! Reading body tokens. Places are counted from the body's start.
 
+use crate::address::address_of;
 use crate::item::{part, told_part};
 use crate::parts::{Groups, Strings};
 use crate::refusal::{written, Refusal};
@@ -7,6 +8,7 @@ use crate::sys;
 use crate::token::{IpHeader, IpcPerm, Party, Token};
 use crate::unfit::unfit;
 use core::iter::FusedIterator;
+use core::net::IpAddr;
 
 /// A token and its size.
 #[derive(Clone, Copy, Debug, PartialEq, Eq)]
@@ -44,6 +46,31 @@ pub fn text_at(body: &[u8], place: usize) -> Option<&[u8]> {
     // SAFETY: the pointer and the length are those of a lent slice.
     let told = unsafe { sys::bsm_text_at(body.as_ptr(), body.len(), place) };
     told_part(body, told)
+}
+
+/// The address of the expanded token at a place; nothing where another token,
+/// no token or a refused one stands.
+///
+/// [`Tokens::place`] says where the next token starts. Since the token is read
+/// once more, ask only where it is an expanded one.
+///
+/// ```
+/// use bsm::{token_address_at, tokens, Token};
+/// use core::net::IpAddr;
+///
+/// let body = b"\x2c\0\x16\x7e\0\0\0\x04\xc0\0\x02\x07";
+/// let mut tokens = tokens(body);
+/// assert_eq!(tokens.next(), Some(Ok(Token::Iport { port: 22 })));
+/// let place = tokens.place();
+/// assert_eq!(tokens.next(), Some(Ok(Token::InAddrEx { address: () })));
+/// assert_eq!(token_address_at(body, place), Some(IpAddr::from([192, 0, 2, 7])));
+/// assert_eq!(token_address_at(body, 0), None);
+/// ```
+#[inline]
+pub fn token_address_at(body: &[u8], place: usize) -> Option<IpAddr> {
+    // SAFETY: the pointer and the length are those of a lent slice.
+    let told = unsafe { sys::bsm_token_at(body.as_ptr(), body.len(), place) };
+    told_token_address(body, &told)
 }
 
 /// How many tokens a body has, or the first refusal in it, with places
@@ -139,10 +166,21 @@ pub(crate) fn told_token<'a>(
     }
 }
 
+/// The address in the answer at a place of `body`, which stops where
+/// [`told_token`] does.
+#[inline]
+pub(crate) fn told_token_address(body: &[u8], told: &sys::bsm_token) -> Option<IpAddr> {
+    told_token(body, told).ok()??;
+    matches!(told.token, 0x7A..=0x7E)
+        .then(|| address_of(part(body, told.start as usize, told.length as usize)))
+}
+
 /// A token that was found, with its part of the body.
 #[inline]
 fn token_of<'a>(body: &'a [u8], told: &sys::bsm_token) -> Token<'a> {
-    let [v0, v1, ..] = told.values;
+    let values = &told.values;
+    let [v0, v1, ..] = *values;
+    let (port, address) = (values[7], values[8] as u32);
     let tail = part(body, told.start as usize, told.length as usize);
     let strings = Strings {
         count: told.count as u32,
@@ -150,8 +188,8 @@ fn token_of<'a>(body: &'a [u8], told: &sys::bsm_token) -> Token<'a> {
     };
     match told.token {
         0x23 => Token::Path { text: tail },
-        0x24 => Token::Subject32(party(&told.values, told.values[7] as u32)),
-        0x26 => Token::Process32(party(&told.values, told.values[7] as u32)),
+        0x24 => Token::Subject32(party(values, port as u32, address)),
+        0x26 => Token::Process32(party(values, port as u32, address)),
         0x27 => Token::Return32 {
             error: v0 as u8,
             value: v1 as u32,
@@ -159,7 +197,7 @@ fn token_of<'a>(body: &'a [u8], told: &sys::bsm_token) -> Token<'a> {
         0x28 => Token::Text { text: tail },
         0x29 => Token::Opaque { bytes: tail },
         0x2A => Token::InAddr { address: v0 as u32 },
-        0x2B => Token::Ip(ip_header(&told.values)),
+        0x2B => Token::Ip(ip_header(values)),
         0x2C => Token::Iport { port: v0 as u16 },
         0x2D => Token::Arg32 {
             argument: v0 as u8,
@@ -169,7 +207,7 @@ fn token_of<'a>(body: &'a [u8], told: &sys::bsm_token) -> Token<'a> {
         0x2F => Token::Seq {
             sequence: v0 as u32,
         },
-        0x32 => Token::IpcPerm(ipc_perm(&told.values)),
+        0x32 => Token::IpcPerm(ipc_perm(values)),
         0x3B => Token::NewGroups {
             groups: Groups::new(tail),
         },
@@ -188,14 +226,19 @@ fn token_of<'a>(body: &'a [u8], told: &sys::bsm_token) -> Token<'a> {
             error: v0 as u8,
             value: v1,
         },
-        0x75 => Token::Subject64(party(&told.values, told.values[7])),
-        0x77 => Token::Process64(party(&told.values, told.values[7])),
+        0x75 => Token::Subject64(party(values, port, address)),
+        0x77 => Token::Process64(party(values, port, address)),
+        0x7A => Token::Subject32Ex(party(values, port as u32, ())),
+        0x7B => Token::Process32Ex(party(values, port as u32, ())),
+        0x7C => Token::Subject64Ex(party(values, port, ())),
+        0x7D => Token::Process64Ex(party(values, port, ())),
+        0x7E => Token::InAddrEx { address: () },
         _ => unfit("token", told.token),
     }
 }
 
 #[inline]
-fn party<P>(values: &[u64; 10], port: P) -> Party<P> {
+fn party<P, A>(values: &[u64; 10], port: P, address: A) -> Party<P, A> {
     Party {
         audit: values[0] as u32,
         effective_user: values[1] as u32,
@@ -205,7 +248,7 @@ fn party<P>(values: &[u64; 10], port: P) -> Party<P> {
         process: values[5] as u32,
         session: values[6] as u32,
         port,
-        address: values[8] as u32,
+        address,
     }
 }
 
@@ -235,5 +278,18 @@ fn ipc_perm(values: &[u64; 10]) -> IpcPerm {
         mode: values[4] as u32,
         sequence: values[5] as u32,
         key: values[6] as u32,
+    }
+}
+
+#[cfg(test)]
+mod tests {
+    use super::*;
+
+    /// As with items: each step copies its token, so that a larger one makes
+    /// every reading slower. With the address in it, it had 64 bytes.
+    #[test]
+    fn tokens_are_small() {
+        assert_eq!(size_of::<Token<'_>>(), 48);
+        assert_eq!(size_of::<TokenAt<'_>>(), 56);
     }
 }

@@ -13,13 +13,14 @@ pub(crate) fn unfit(what: &str, number: u64) -> ! {
 mod tests {
     extern crate std;
 
+    use crate::address::address_of;
     use crate::back::{before, Before};
-    use crate::item::{found, part, told_part, HeaderKind, Item};
+    use crate::item::{found, part, record, told_address, told_part, Item};
     use crate::listing::{cursor_of, Cursor};
     use crate::refusal::{written, Reason, Refusal};
     use crate::sys;
     use crate::token::Token;
-    use crate::token_read::told_token;
+    use crate::token_read::{told_token, told_token_address};
     use core::fmt::Debug;
     use std::panic::{catch_unwind, UnwindSafe};
     use std::string::String;
@@ -28,11 +29,14 @@ mod tests {
     /// they were cut to 8 or 32 bits.
     const NEVER: [u64; 6] = [0xFF, 0x101, 0x114, 0x123, (1 << 32) + 1, u64::MAX];
 
-    /// The numbers of the twenty body tokens.
+    /// The numbers of the body tokens that are not expanded.
     const TOKENS: [u64; 20] = [
         0x23, 0x24, 0x26, 0x27, 0x28, 0x29, 0x2A, 0x2B, 0x2C, 0x2D, 0x2F, 0x32, 0x3B, 0x3C, 0x3D,
         0x52, 0x71, 0x72, 0x75, 0x77,
     ];
+
+    /// Those of the expanded ones.
+    const EXPANDED: [u64; 5] = [0x7A, 0x7B, 0x7C, 0x7D, 0x7E];
 
     /// Asserts that `answer` stops, and that what it says names the number.
     fn stops<T: Debug>(what: &str, number: u64, answer: impl FnOnce() -> T + UnwindSafe) {
@@ -44,10 +48,10 @@ mod tests {
 
     #[test]
     fn refusals() {
-        for number in 1..=11 {
+        for number in (1..=11).chain([13]) {
             assert_eq!(u64::from(Reason::of(number).number()), number);
         }
-        for number in [0, 12, 13, 14, 15, 16, 17].into_iter().chain(NEVER) {
+        for number in [0, 12, 14, 15, 16, 17].into_iter().chain(NEVER) {
             stops("refusal", number, || Reason::of(number));
             stops("refusal", number, || Refusal::of(number, 0, 0));
             if number != 0 {
@@ -62,23 +66,78 @@ mod tests {
 
     #[test]
     fn headers() {
-        for number in 0..=0x1FF {
+        let told = |header| sys::bsm_item {
+            kind: sys::BSM_RECORD,
+            header,
+            ..Default::default()
+        };
+        for number in (0..=0x1FF).chain(NEVER) {
             match number {
-                0x14 | 0x74 => {
-                    assert_eq!(u64::from(HeaderKind::of(number).number()), number);
+                0x14 | 0x74 | 0x15 | 0x79 => {
+                    let Item::Record { header, .. } = record(&[0; 60], &told(number)) else {
+                        panic!("no record");
+                    };
+                    assert_eq!(u64::from(header.kind.number()), number);
                 }
-                _ => stops("header", number, || HeaderKind::of(number)),
+                _ => stops("header", number, || found(&[0; 60], &told(number))),
             }
         }
-        // Through an item, with numbers of later requests.
-        for header in [0, 0x15, 0x79].into_iter().chain(NEVER) {
-            let told = sys::bsm_item {
-                kind: sys::BSM_RECORD,
-                size: 25,
-                header,
-                ..Default::default()
-            };
-            stops("header", header, || found(&[0; 60], &told));
+    }
+
+    /// Lengths that addresses of headers and tokens have, and lengths that none
+    /// has.
+    #[test]
+    fn addresses() {
+        let trail: [u8; 60] = core::array::from_fn(|at| at as u8);
+        let told = |length| sys::bsm_part { start: 3, length };
+        let told_in = |kind, token, length| sys::bsm_token {
+            kind,
+            token,
+            start: 3,
+            length,
+            number: 7,
+            ..Default::default()
+        };
+        assert_eq!(told_address(&trail, sys::bsm_part::default()), None);
+        for length in [4, 16] {
+            let address = told_address(&trail, told(length as u64));
+            assert_eq!(address, Some(address_of(&trail[3..3 + length])));
+            for token in EXPANDED {
+                let told = told_in(sys::BSM_TOKEN, token, length as u64);
+                assert_eq!(told_token_address(&trail, &told), address);
+            }
+            // Other tokens have none, nor has what is no token.
+            for token in TOKENS {
+                let told = told_in(sys::BSM_TOKEN, token, length as u64);
+                assert_eq!(told_token_address(&trail, &told), None);
+            }
+            for kind in [sys::BSM_NO_TOKEN, sys::BSM_TOKEN_REFUSED] {
+                let told = told_in(kind, 0x7E, length as u64);
+                assert_eq!(told_token_address(&trail, &told), None);
+            }
+            for number in NEVER {
+                let told = told_in(number, 0x7E, length as u64);
+                stops("token kind", number, || told_token_address(&trail, &told));
+                let told = told_in(sys::BSM_TOKEN, number, length as u64);
+                stops("token", number, || told_token_address(&trail, &told));
+            }
+        }
+        let lengths = (0..=40).filter(|length| ![4, 16].contains(length));
+        for length in lengths.chain([1 << 32 | 4, u64::MAX]) {
+            no_address(length, || told_address(&trail, told(length)));
+            for token in EXPANDED {
+                let told = told_in(sys::BSM_TOKEN, token, length);
+                no_address(length, || told_token_address(&trail, &told));
+            }
+        }
+    }
+
+    /// Asserts that an answer with an address of this length stops.
+    fn no_address<T: Debug>(length: u64, answer: impl FnOnce() -> T + UnwindSafe) {
+        match length {
+            ..=60 => stops("an address with bytes", length, answer),
+            // Nothing of the sort is there.
+            _ => stops("a part from", 3, answer),
         }
     }
 
@@ -128,12 +187,13 @@ mod tests {
         let told = |kind, token| sys::bsm_token {
             kind,
             token,
+            length: 4,
             number: 7,
             ..Default::default()
         };
         for number in 0..=0x1FF {
             let read = || told_token(&[0; 8], &told(sys::BSM_TOKEN, number));
-            if TOKENS.contains(&number) {
+            if TOKENS.contains(&number) || EXPANDED.contains(&number) {
                 let token: Token<'_> = read().unwrap().unwrap().token;
                 assert_eq!(u64::from(token.number()), number);
             } else {
@@ -142,7 +202,7 @@ mod tests {
         }
         for number in NEVER {
             stops("token", number, || {
-                told_token(&[], &told(sys::BSM_TOKEN, number))
+                told_token(&[0; 8], &told(sys::BSM_TOKEN, number))
             });
         }
         assert_eq!(told_token(&[], &told(sys::BSM_NO_TOKEN, 0)), Ok(None));

@@ -1,10 +1,59 @@
 //! Writing tokens, file tokens and records at the start of a lent
 //! destination. What is refused is not written, not even in part.
 
+use crate::address::Octets;
 use crate::item::{Header, HeaderKind};
 use crate::refusal::{written, Refusal};
 use crate::sys;
-use crate::token::{NewToken, Party, Token};
+use crate::token::{NewToken, Token};
+use core::net::IpAddr;
+
+/// Calls the writer of a subject or process token. The address is a number,
+/// or a pointer and a length.
+macro_rules! party {
+    ($writer:ident, $dst:ident, $party:ident, $($address:expr),+) => {
+        sys::$writer(
+            $dst.as_mut_ptr(),
+            $dst.len(),
+            $party.audit,
+            $party.effective_user,
+            $party.effective_group,
+            $party.real_user,
+            $party.real_group,
+            $party.process,
+            $party.session,
+            $party.port,
+            $($address),+
+        )
+    };
+}
+
+/// The same for an expanded token, whose address is lent.
+macro_rules! party_ex {
+    ($writer:ident, $dst:ident, $party:ident) => {{
+        let octets = Octets::of($party.address);
+        party!($writer, $dst, $party, octets.as_ptr(), octets.len())
+    }};
+}
+
+/// Calls the writer of a record, which is lent an address where its header has
+/// one.
+macro_rules! record {
+    ($writer:ident, $dst:ident, $header:ident, $body:ident $(, $address:ident)?) => {
+        sys::$writer(
+            $dst.as_mut_ptr(),
+            $dst.len(),
+            $header.version,
+            $header.event,
+            $header.modifier,
+            $header.seconds,
+            $header.nanoseconds,
+            $($address.as_ptr(), $address.len(),)?
+            $body.as_ptr(),
+            $body.len(),
+        )
+    };
+}
 
 /// Writes a body token and answers how many bytes it took.
 ///
@@ -14,7 +63,8 @@ use crate::token::{NewToken, Party, Token};
 /// small.
 ///
 /// ```
-/// use bsm::{token_at, write_token, NewToken, Reason, Token};
+/// use bsm::{token_address_at, token_at, write_token, NewToken, Reason, Token};
+/// use core::net::IpAddr;
 ///
 /// let mut body = [0; 16];
 /// let size = write_token(&mut body, &NewToken::Path { text: b"/etc" })?;
@@ -25,25 +75,43 @@ use crate::token::{NewToken, Party, Token};
 /// assert_eq!(refused.unwrap_err().reason, Reason::NoRoom);
 /// let refused = write_token(&mut body, &NewToken::Path { text: b"/e\0c" });
 /// assert_eq!(refused.unwrap_err().place, 2);
+///
+/// // An address of either length, whose type is written before it.
+/// for (address, type_and_size) in [("192.0.2.7", (4, 9)), ("2001:db8::7", (16, 21))] {
+///     let ip: IpAddr = address.parse().unwrap();
+///     let mut body = [0; 32];
+///     let size = write_token(&mut body, &NewToken::InAddrEx { address: ip })?;
+///     assert_eq!((body[4], size), type_and_size);
+///     assert_eq!(token_address_at(&body[..size], 0), Some(ip));
+/// }
 /// # Ok::<(), bsm::Refusal>(())
 /// ```
 #[inline]
 pub fn write_token(dst: &mut [u8], token: &NewToken<'_>) -> Result<usize, Refusal> {
     let (to, room) = (dst.as_mut_ptr(), dst.len());
     // SAFETY: each pointer and the length behind it are those of a lent
-    // slice, and no other part lent overlaps `dst`, which is borrowed alone.
+    // slice, or of an address's bytes held here, and no other part lent
+    // overlaps `dst`, which is borrowed alone.
     written(unsafe {
         match *token {
             Token::Path { text } => sys::bsm_write_path(to, room, text.as_ptr(), text.len()),
             Token::Text { text } => sys::bsm_write_text(to, room, text.as_ptr(), text.len()),
             Token::Opaque { bytes } => sys::bsm_write_opaque(to, room, bytes.as_ptr(), bytes.len()),
-            Token::Subject32(ref p) => party(sys::bsm_write_subject32, dst, p),
-            Token::Process32(ref p) => party(sys::bsm_write_process32, dst, p),
-            Token::Subject64(ref p) => party(sys::bsm_write_subject64, dst, p),
-            Token::Process64(ref p) => party(sys::bsm_write_process64, dst, p),
+            Token::Subject32(ref p) => party!(bsm_write_subject32, dst, p, p.address),
+            Token::Process32(ref p) => party!(bsm_write_process32, dst, p, p.address),
+            Token::Subject64(ref p) => party!(bsm_write_subject64, dst, p, p.address),
+            Token::Process64(ref p) => party!(bsm_write_process64, dst, p, p.address),
+            Token::Subject32Ex(ref p) => party_ex!(bsm_write_subject32_ex, dst, p),
+            Token::Process32Ex(ref p) => party_ex!(bsm_write_process32_ex, dst, p),
+            Token::Subject64Ex(ref p) => party_ex!(bsm_write_subject64_ex, dst, p),
+            Token::Process64Ex(ref p) => party_ex!(bsm_write_process64_ex, dst, p),
             Token::Return32 { error, value } => sys::bsm_write_return32(to, room, error, value),
             Token::Return64 { error, value } => sys::bsm_write_return64(to, room, error, value),
             Token::InAddr { address } => sys::bsm_write_in_addr(to, room, address),
+            Token::InAddrEx { address } => {
+                let octets = Octets::of(address);
+                sys::bsm_write_in_addr_ex(to, room, octets.as_ptr(), octets.len())
+            }
             Token::Ip(ref ip) => sys::bsm_write_ip(
                 to,
                 room,
@@ -95,42 +163,6 @@ pub fn write_token(dst: &mut [u8], token: &NewToken<'_>) -> Result<usize, Refusa
     })
 }
 
-/// A writer of the library for a subject or process token.
-type PartyWriter<P> = unsafe extern "C" fn(
-    *mut u8,
-    usize,
-    u32,
-    u32,
-    u32,
-    u32,
-    u32,
-    u32,
-    u32,
-    P,
-    u32,
-) -> sys::bsm_written;
-
-/// Calls the writer of a subject or process token.
-#[inline(always)]
-fn party<P: Copy>(writer: PartyWriter<P>, dst: &mut [u8], party: &Party<P>) -> sys::bsm_written {
-    // SAFETY: the pointer and the length are those of a lent slice.
-    unsafe {
-        writer(
-            dst.as_mut_ptr(),
-            dst.len(),
-            party.audit,
-            party.effective_user,
-            party.effective_group,
-            party.real_user,
-            party.real_group,
-            party.process,
-            party.session,
-            party.port,
-            party.address,
-        )
-    }
-}
-
 /// Writes a file token and answers how many bytes it took. The name comes
 /// without its zero byte and has at most 1,023 bytes.
 ///
@@ -170,10 +202,13 @@ pub fn write_file(
 /// Writes a record of a header, a body and a trailer, and answers how many
 /// bytes it took.
 ///
-/// Refused, in this order, are more than 65,535 bytes in all, a version over
-/// 255 or times too large for a header32, nanoseconds over 999,999,999, the
-/// body's first bad token, as [`walk_body`](crate::walk_body) refuses it, and
-/// a destination that is too small.
+/// Refused, in this order, are an expanded header, whose address only
+/// [`write_record_ex`] is given
+/// ([`Reason::AddressType`](crate::Reason::AddressType)), more than 65,535
+/// bytes in all, a version over 255 or times too large for a header32,
+/// nanoseconds over 999,999,999, the body's first bad token, as
+/// [`walk_body`](crate::walk_body) refuses it, and a destination that is too
+/// small.
 ///
 /// ```
 /// use bsm::{item_at, write_record, Header, HeaderKind, Item, Reason};
@@ -197,26 +232,67 @@ pub fn write_file(
 /// given.version = 256;
 /// let refused = write_record(&mut trail, &given, b"");
 /// assert_eq!(refused.unwrap_err().reason, Reason::TooLarge);
+///
+/// given.kind = HeaderKind::Header32Ex;
+/// let refused = write_record(&mut trail, &given, b"");
+/// assert_eq!(refused.unwrap_err().reason, Reason::AddressType);
 /// # Ok::<(), bsm::Refusal>(())
 /// ```
 #[inline]
 pub fn write_record(dst: &mut [u8], header: &Header, body: &[u8]) -> Result<usize, Refusal> {
-    let writer = match header.kind {
-        HeaderKind::Header32 => sys::bsm_write_record32,
-        HeaderKind::Header64 => sys::bsm_write_record64,
-    };
+    // The library is asked all the same, so that it is the one who refuses.
+    let none: &[u8] = &[];
     // SAFETY: as in `write_token`.
     written(unsafe {
-        writer(
-            dst.as_mut_ptr(),
-            dst.len(),
-            header.version,
-            header.event,
-            header.modifier,
-            header.seconds,
-            header.nanoseconds,
-            body.as_ptr(),
-            body.len(),
-        )
+        match header.kind {
+            HeaderKind::Header32 => record!(bsm_write_record32, dst, header, body),
+            HeaderKind::Header64 => record!(bsm_write_record64, dst, header, body),
+            HeaderKind::Header32Ex => record!(bsm_write_record32_ex, dst, header, body, none),
+            HeaderKind::Header64Ex => record!(bsm_write_record64_ex, dst, header, body, none),
+        }
+    })
+}
+
+/// Writes a record with an expanded header, a header32_ex or a header64_ex,
+/// and answers how many bytes it took. The times are as wide as
+/// [`Header::kind`] says, be it an expanded kind or not.
+///
+/// Refused, in this order, are more than 65,535 bytes in all, a version over
+/// 255 or times too large for a header32_ex, nanoseconds over 999,999,999, the
+/// body's first bad token, as [`walk_body`](crate::walk_body) refuses it, and a
+/// destination that is too small.
+///
+/// ```
+/// use bsm::{address_at, item_at, write_record_ex, Header, HeaderKind, Item};
+///
+/// let given = Header::new(HeaderKind::Header32Ex);
+/// let host = "2001:db8::7".parse().unwrap();
+/// let mut trail = [0; 64];
+/// let size = write_record_ex(&mut trail, &given, host, b"")?;
+/// assert_eq!(size, 25 + 4 + 16);
+///
+/// let read = item_at(&trail[..size], 0)?;
+/// assert!(matches!(read, Some(Item::Record { header, .. }) if header == given));
+/// assert_eq!(address_at(&trail[..size], 0), Some(host));
+/// # Ok::<(), bsm::Refusal>(())
+/// ```
+#[inline]
+pub fn write_record_ex(
+    dst: &mut [u8],
+    header: &Header,
+    address: IpAddr,
+    body: &[u8],
+) -> Result<usize, Refusal> {
+    let octets = Octets::of(address);
+    // SAFETY: as in `write_token`.
+    written(unsafe {
+        match header.kind {
+            HeaderKind::Header32 | HeaderKind::Header32Ex => {
+                record!(bsm_write_record32_ex, dst, header, body, octets)
+            }
+            HeaderKind::Header64 | HeaderKind::Header64Ex => {
+                record!(bsm_write_record64_ex, dst, header, body, octets)
+            }
+        }
     })
 }

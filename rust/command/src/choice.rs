@@ -67,7 +67,8 @@ impl Choice {
         if self.sessions.is_empty() && self.users.is_empty() {
             return true;
         }
-        let parties: Vec<Named> = tokens_of(item).filter_map(|token| named(&token)).collect();
+        let parties = tokens_of(item).filter_map(|shown| named(&shown.token));
+        let parties: Vec<Named> = parties.collect();
         let has_session = |&session| parties.iter().any(|party| party.session == session);
         let has_user = |user| parties.iter().any(|party| party.users.contains(user));
         self.sessions.iter().all(has_session) && self.users.iter().all(has_user)
@@ -84,11 +85,13 @@ fn named(token: &Token<'_>) -> Option<Named> {
     match token {
         Token::Subject32(party) | Token::Process32(party) => Some(named_in(party)),
         Token::Subject64(party) | Token::Process64(party) => Some(named_in(party)),
+        Token::Subject32Ex(party) | Token::Process32Ex(party) => Some(named_in(party)),
+        Token::Subject64Ex(party) | Token::Process64Ex(party) => Some(named_in(party)),
         _ => None,
     }
 }
 
-fn named_in<P>(party: &Party<P>) -> Named {
+fn named_in<P, A>(party: &Party<P, A>) -> Named {
     Named {
         session: party.session,
         users: [party.audit, party.effective_user, party.real_user],

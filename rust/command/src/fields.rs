@@ -2,7 +2,9 @@
 //! docs/COMMAND.md lists the names; they stay as they are.
 
 use crate::time::Time;
-use bsm::{Groups, Header, HeaderKind, IpHeader, IpcPerm, Item, Party, Strings, Token};
+use bsm::{address_at, token_address_at, Groups, Header, HeaderKind};
+use bsm::{IpHeader, IpcPerm, Item, Party, Strings, Token};
+use std::net::{IpAddr, Ipv4Addr};
 
 /// The value of a field.
 pub enum Value<'a> {
@@ -12,8 +14,8 @@ pub enum Value<'a> {
     Word(&'static str),
     /// A moment.
     Time(Time),
-    /// An address of four bytes.
-    Address(u32),
+    /// An address of four or sixteen bytes.
+    Address(IpAddr),
     /// A text or path.
     Text(&'a [u8]),
     /// Bytes of any kind.
@@ -25,6 +27,11 @@ pub enum Value<'a> {
 }
 
 use Value::{Address, Bytes, Number, Text, Word};
+
+/// An address that is held as a number.
+fn ipv4<'a>(address: u32) -> Value<'a> {
+    Address(Ipv4Addr::from(address).into())
+}
 
 /// A field's name and its value.
 pub type Field<'a> = (&'static str, Value<'a>);
@@ -55,27 +62,81 @@ pub fn time_of(item: &Item<'_>) -> Time {
     }
 }
 
+/// An item that is to be shown, and where it was read.
+#[derive(Clone, Copy, Debug)]
+pub struct Shown<'a> {
+    /// The trail, or the part of it that is held.
+    pub bytes: &'a [u8],
+    /// Where the bytes start in the trail.
+    pub base: usize,
+    /// Where the item stands in the bytes.
+    pub at: usize,
+    /// The item.
+    pub item: Item<'a>,
+}
+
+impl Shown<'_> {
+    /// Where the item stands in the trail.
+    fn place(&self) -> usize {
+        self.base + self.at
+    }
+
+    /// The address in a record's header. Only an expanded one is read again
+    /// for it.
+    fn address(&self) -> Option<IpAddr> {
+        match self.item {
+            Item::File { .. } => None,
+            Item::Record { header, .. } => match header.kind {
+                HeaderKind::Header32 | HeaderKind::Header64 => None,
+                _ => address_at(self.bytes, self.at),
+            },
+        }
+    }
+}
+
+/// A token that is to be shown, and where it was read.
+#[derive(Clone, Copy, Debug)]
+pub struct ShownToken<'a> {
+    /// The body.
+    pub body: &'a [u8],
+    /// Where the token stands in the body.
+    pub at: usize,
+    /// The token.
+    pub token: Token<'a>,
+}
+
+impl<'a> ShownToken<'a> {
+    /// The address of an expanded token, which is read again for it.
+    fn address(&self) -> Value<'a> {
+        let address = token_address_at(self.body, self.at);
+        Address(address.expect("an expanded token has an address"))
+    }
+}
+
 /// The fields of an item; [`moment_fields`] has its time once more.
-pub fn item_fields<'a>(place: usize, item: &Item<'a>) -> Vec<Field<'a>> {
+pub fn item_fields<'a>(shown: &Shown<'a>) -> Vec<Field<'a>> {
+    let item = &shown.item;
     let mut fields = vec![
-        ("place", Number(place as u64)),
+        ("place", Number(shown.place() as u64)),
         ("size", Number(item.size() as u64)),
         ("time", Value::Time(time_of(item))),
     ];
     match *item {
         Item::File { name, .. } => fields.push(("name", Text(name))),
-        Item::Record { header, .. } => fields.extend(header_fields(&header)),
+        Item::Record { header, .. } => fields.extend(header_fields(&header, shown.address())),
     }
     fields
 }
 
-fn header_fields<'a>(header: &Header) -> [Field<'a>; 4] {
-    [
+fn header_fields<'a>(header: &Header, address: Option<IpAddr>) -> impl Iterator<Item = Field<'a>> {
+    let fields = [
         ("header", Word(header_name(header.kind))),
         ("version", Number(header.version.into())),
         ("event", Number(header.event.into())),
         ("modifier", Number(header.modifier.into())),
-    ]
+    ];
+    let address = address.map(|address| ("address", Address(address)));
+    fields.into_iter().chain(address)
 }
 
 /// The numbers of an item's time, as the layout has them.
@@ -96,16 +157,19 @@ pub fn moment_fields<'a>(item: &Item<'_>) -> [Field<'a>; 2] {
     }
 }
 
-fn header_name(kind: HeaderKind) -> &'static str {
+/// The name of a header, as the papers have it.
+pub fn header_name(kind: HeaderKind) -> &'static str {
     match kind {
         HeaderKind::Header32 => "header32",
         HeaderKind::Header64 => "header64",
+        HeaderKind::Header32Ex => "header32_ex",
+        HeaderKind::Header64Ex => "header64_ex",
         _ => unnamed("header", kind.number()),
     }
 }
 
-/// The name of a token, as paper 01 has it.
-pub fn token_name(token: &Token<'_>) -> &'static str {
+/// The name of a token, as the papers have it.
+pub fn token_name<G, A>(token: &Token<'_, G, A>) -> &'static str {
     match token {
         Token::Path { .. } => "path",
         Token::Subject32(_) => "subject32",
@@ -127,21 +191,37 @@ pub fn token_name(token: &Token<'_>) -> &'static str {
         Token::Return64 { .. } => "return64",
         Token::Subject64(_) => "subject64",
         Token::Process64(_) => "process64",
+        Token::Subject32Ex(_) => "subject32_ex",
+        Token::Process32Ex(_) => "process32_ex",
+        Token::Subject64Ex(_) => "subject64_ex",
+        Token::Process64Ex(_) => "process64_ex",
+        Token::InAddrEx { .. } => "in_addr_ex",
         _ => unnamed("token", token.number()),
     }
 }
 
 /// The fields of a token, in the order of its layout.
-pub fn token_fields<'a>(token: &Token<'a>) -> Vec<Field<'a>> {
-    match *token {
+pub fn token_fields<'a>(shown: &ShownToken<'a>) -> Vec<Field<'a>> {
+    match shown.token {
         Token::Path { text } => vec![("path", Text(text))],
         Token::Text { text } => vec![("text", Text(text))],
         Token::Opaque { bytes } => vec![("bytes", Bytes(bytes))],
-        Token::Subject32(ref party) | Token::Process32(ref party) => party_fields(party),
-        Token::Subject64(ref party) | Token::Process64(ref party) => party_fields(party),
+        Token::Subject32(ref party) | Token::Process32(ref party) => {
+            party_fields(party, ipv4(party.address))
+        }
+        Token::Subject64(ref party) | Token::Process64(ref party) => {
+            party_fields(party, ipv4(party.address))
+        }
+        Token::Subject32Ex(ref party) | Token::Process32Ex(ref party) => {
+            party_fields(party, shown.address())
+        }
+        Token::Subject64Ex(ref party) | Token::Process64Ex(ref party) => {
+            party_fields(party, shown.address())
+        }
         Token::Return32 { error, value } => return_fields(error, value.into()),
         Token::Return64 { error, value } => return_fields(error, value),
-        Token::InAddr { address } => vec![("address", Address(address))],
+        Token::InAddr { address } => vec![("address", ipv4(address))],
+        Token::InAddrEx { .. } => vec![("address", shown.address())],
         Token::Ip(ref header) => ip_fields(header),
         Token::Iport { port } => vec![("port", Number(port.into()))],
         Token::Arg32 {
@@ -164,11 +244,14 @@ pub fn token_fields<'a>(token: &Token<'a>) -> Vec<Field<'a>> {
             ("status", Number(status.into())),
             ("value", Number(value.into())),
         ],
-        _ => unnamed("token", token.number()),
+        _ => unnamed("token", shown.token.number()),
     }
 }
 
-fn party_fields<'a, P: Copy + Into<u64>>(party: &Party<P>) -> Vec<Field<'a>> {
+fn party_fields<'a, P: Copy + Into<u64>, A>(
+    party: &Party<P, A>,
+    address: Value<'a>,
+) -> Vec<Field<'a>> {
     vec![
         ("audit", Number(party.audit.into())),
         ("effective_user", Number(party.effective_user.into())),
@@ -178,7 +261,7 @@ fn party_fields<'a, P: Copy + Into<u64>>(party: &Party<P>) -> Vec<Field<'a>> {
         ("process", Number(party.process.into())),
         ("session", Number(party.session.into())),
         ("port", Number(party.port.into())),
-        ("address", Address(party.address)),
+        ("address", address),
     ]
 }
 
@@ -204,8 +287,8 @@ fn ip_fields<'a>(header: &IpHeader) -> Vec<Field<'a>> {
         ("ttl", Number(header.ttl.into())),
         ("protocol", Number(header.protocol.into())),
         ("checksum", Number(header.checksum.into())),
-        ("source", Address(header.source)),
-        ("destination", Address(header.destination)),
+        ("source", ipv4(header.source)),
+        ("destination", ipv4(header.destination)),
     ]
 }
 

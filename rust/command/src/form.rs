@@ -1,7 +1,8 @@
 //! The forms in which items are shown.
 
+use crate::fields::Shown;
 use crate::{json, text};
-use bsm::{first_line, item_line, last_line, Item, Refusal, State, LINE_MAX};
+use bsm::{first_line, item_line, last_line, Refusal, State, LINE_MAX};
 use std::io::{self, Write};
 
 /// How items are written.
@@ -24,19 +25,18 @@ impl Form {
         }
     }
 
-    /// Writes the item at a place of the trail with this name.
+    /// Writes an item of the trail with this name. A listing is one of a whole
+    /// trail.
     pub fn write_item(
         self,
         out: &mut impl Write,
         name: &[u8],
-        trail: &[u8],
-        place: usize,
-        item: &Item<'_>,
+        shown: &Shown<'_>,
     ) -> io::Result<()> {
         match self {
-            Form::Listing => write_line(out, |line| item_line(line, trail, place)),
-            Form::Text => text::write_item(out, place, item),
-            Form::Json => json::write_item(out, name, place, item),
+            Form::Listing => write_line(out, |line| item_line(line, shown.bytes, shown.at)),
+            Form::Text => text::write_item(out, shown),
+            Form::Json => json::write_item(out, name, shown),
         }
     }
 

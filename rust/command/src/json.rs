@@ -3,25 +3,21 @@
 
 use crate::escape::write_hex;
 use crate::fields::{
-    item_fields, item_name, moment_fields, token_fields, token_name, Field, Value,
+    item_fields, item_name, moment_fields, token_fields, token_name, Field, Shown, ShownToken,
+    Value,
 };
 use crate::reading::tokens_of;
 use crate::write::{write_list, write_number};
-use bsm::{Item, Token};
+use bsm::Item;
 use std::io::{self, Write};
-use std::net::Ipv4Addr;
 use std::str;
 
 /// Writes the object of an item in the trail of this name.
-pub fn write_item(
-    out: &mut impl Write,
-    trail: &[u8],
-    place: usize,
-    item: &Item<'_>,
-) -> io::Result<()> {
+pub fn write_item(out: &mut impl Write, trail: &[u8], shown: &Shown<'_>) -> io::Result<()> {
+    let item = &shown.item;
     write!(out, "{{\"item\":\"{}\"", item_name(item))?;
     write_fields(out, &[("trail", Value::Text(trail))])?;
-    write_fields(out, &item_fields(place, item))?;
+    write_fields(out, &item_fields(shown))?;
     write_fields(out, &moment_fields(item))?;
     if let Item::Record { .. } = item {
         out.write_all(b",\"tokens\":")?;
@@ -30,9 +26,9 @@ pub fn write_item(
     out.write_all(b"}\n")
 }
 
-fn write_token(out: &mut impl Write, token: &Token<'_>) -> io::Result<()> {
-    write!(out, "{{\"token\":\"{}\"", token_name(token))?;
-    write_fields(out, &token_fields(token))?;
+fn write_token(out: &mut impl Write, shown: &ShownToken<'_>) -> io::Result<()> {
+    write!(out, "{{\"token\":\"{}\"", token_name(&shown.token))?;
+    write_fields(out, &token_fields(shown))?;
     out.write_all(b"}")
 }
 
@@ -52,7 +48,7 @@ fn write_value(out: &mut impl Write, value: &Value<'_>) -> io::Result<()> {
         Value::Number(number) => write_number(out, number),
         Value::Word(word) => write!(out, "\"{word}\""),
         Value::Time(time) => write!(out, "\"{time}\""),
-        Value::Address(address) => write!(out, "\"{}\"", Ipv4Addr::from(address)),
+        Value::Address(address) => write!(out, "\"{address}\""),
         Value::Text(text) => write_text(out, text),
         Value::Bytes(bytes) => write_bytes(out, bytes),
         Value::Groups(groups) => {

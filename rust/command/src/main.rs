@@ -10,6 +10,7 @@ mod fields;
 mod followed;
 mod form;
 mod json;
+mod mistyped;
 mod output;
 mod reading;
 mod spoilt;

@@ -1,13 +1,16 @@
 //! Reading a trail's items and writing those that are chosen.
 
 use crate::choice::Choice;
+use crate::fields::{Shown, ShownToken};
 use crate::form::Form;
+use crate::mistyped::Mistyped;
 use crate::output::{say, title};
 use crate::spoilt::Spoilt;
 use crate::status::Status;
-use bsm::{tokens, Item, Items, Reason, Refusal, State, Token};
+use bsm::{tokens, Item, Items, Reason, Refusal, State};
 use std::ffi::OsStr;
 use std::io::{self, Write};
+use std::iter;
 
 /// Where a reading stopped.
 #[derive(Clone, Copy, Debug, PartialEq, Eq)]
@@ -51,7 +54,13 @@ impl View {
                 Some(Err(refusal)) => break Stop::Refused(refusal),
                 Some(Ok((place, item))) if self.choice.takes(&item) => {
                     let name = name.as_encoded_bytes();
-                    self.form.write_item(out, name, trail, place, &item)?;
+                    let shown = Shown {
+                        bytes: trail,
+                        base: 0,
+                        at: place,
+                        item,
+                    };
+                    self.form.write_item(out, name, &shown)?;
                 }
                 Some(Ok(_)) => {}
             }
@@ -62,12 +71,18 @@ impl View {
 }
 
 /// The tokens of a record; a file token has none.
-pub fn tokens_of<'a>(item: &Item<'a>) -> impl Iterator<Item = Token<'a>> {
+pub fn tokens_of<'a>(item: &Item<'a>) -> impl Iterator<Item = ShownToken<'a>> {
     let body = match *item {
         Item::File { .. } => &[],
         Item::Record { body, .. } => body,
     };
-    tokens(body).map(|token| token.expect("the body of an accepted record has no other tokens"))
+    let mut tokens = tokens(body);
+    iter::from_fn(move || {
+        let at = tokens.place();
+        let token = tokens.next()?;
+        let token = token.expect("the body of an accepted record has no other tokens");
+        Some(ShownToken { body, at, token })
+    })
 }
 
 /// Says why a reading stopped at a state, a refusal with its number, place
@@ -86,10 +101,7 @@ pub fn say_stop(name: &OsStr, trail: &[u8], state: State, stop: Stop) -> Status 
     let numbers = format!("refusal {}, place {place}, need {need}", reason.number());
     let name = title(name);
     if reason != Reason::Short {
-        let why = match Spoilt::find(trail, state.place, &refusal) {
-            Some(spoilt) => spoilt.to_string(),
-            None => reason.to_string(),
-        };
+        let why = why_refused(trail, state, &refusal);
         say(format_args!("{name}: refused: {why} ({numbers})"));
         return Status::Refused;
     }
@@ -99,4 +111,15 @@ pub fn say_stop(name: &OsStr, trail: &[u8], state: State, stop: Stop) -> Status 
          it is still being written or was cut off ({numbers})"
     ));
     Status::Short
+}
+
+/// Why the item at a state is refused, as closely as it can be said.
+fn why_refused(trail: &[u8], state: State, refusal: &Refusal) -> String {
+    if let Some(spoilt) = Spoilt::find(trail, state.place, refusal) {
+        return spoilt.to_string();
+    }
+    match Mistyped::find(trail, refusal) {
+        Some(mistyped) => mistyped.to_string(),
+        None => refusal.reason.to_string(),
+    }
 }

@@ -2,20 +2,18 @@
 //! a record: the name of the thing, then its fields.
 
 use crate::escape::{write_hex, write_quoted};
-use crate::fields::{item_fields, item_name, token_fields, token_name, Field, Value};
+use crate::fields::{item_fields, item_name, token_fields, token_name, Field, Shown, Value};
 use crate::reading::tokens_of;
 use crate::write::{write_list, write_number};
-use bsm::Item;
 use std::io::{self, Write};
-use std::net::Ipv4Addr;
 
 /// Writes the lines of an item.
-pub fn write_item(out: &mut impl Write, place: usize, item: &Item<'_>) -> io::Result<()> {
-    out.write_all(item_name(item).as_bytes())?;
-    write_fields(out, &item_fields(place, item))?;
-    for token in tokens_of(item) {
+pub fn write_item(out: &mut impl Write, shown: &Shown<'_>) -> io::Result<()> {
+    out.write_all(item_name(&shown.item).as_bytes())?;
+    write_fields(out, &item_fields(shown))?;
+    for token in tokens_of(&shown.item) {
         out.write_all(b"    ")?;
-        out.write_all(token_name(&token).as_bytes())?;
+        out.write_all(token_name(&token.token).as_bytes())?;
         write_fields(out, &token_fields(&token))?;
     }
     Ok(())
@@ -37,7 +35,7 @@ fn write_value(out: &mut impl Write, value: &Value<'_>) -> io::Result<()> {
         Value::Number(number) => write_number(out, number),
         Value::Word(word) => out.write_all(word.as_bytes()),
         Value::Time(time) => write!(out, "{time}"),
-        Value::Address(address) => write!(out, "{}", Ipv4Addr::from(address)),
+        Value::Address(address) => write!(out, "{address}"),
         Value::Text(text) => write_quoted(out, text),
         Value::Bytes(bytes) => write_hex(out, bytes),
         Value::Groups(groups) => {

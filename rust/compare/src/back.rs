@@ -1,7 +1,8 @@
 //! Steps back and walks from a trail's end on both sides.
 
 use crate::expect;
-use crate::reading::show;
+use crate::raw::{raw_address_before, raw_part};
+use crate::reading::{same_address, show};
 use crate::tally::Tally;
 use bsm::Newest;
 use generator::{ending_at, Rng};
@@ -19,8 +20,8 @@ fn expected(plain: Before<'_>) -> Result<bsm::Before<'_>, bsm::Refusal> {
     }
 }
 
-/// Compares the step back from a place, the part of its record included, and
-/// gives the reference's answer.
+/// Compares the step back from a place, the part and the address of its
+/// record included, and gives the reference's answer.
 pub fn same_before<'a>(tally: &mut Tally, trail: &'a [u8], place: usize) -> Before<'a> {
     tally.input();
     let plain = reference::record_before(trail, place);
@@ -34,10 +35,16 @@ pub fn same_before<'a>(tally: &mut Tally, trail: &'a [u8], place: usize) -> Befo
     tally.ending(ending_at(trail, place));
     match (plain, found) {
         (Before::Refused(refusal), _) => tally.answer(Some(refusal)),
-        (Before::Record { item, .. }, Ok(bsm::Before::Record { item: found, .. })) => {
+        (Before::Record { place: start, item }, Ok(bsm::Before::Record { item: found, .. })) => {
             let part = expect::part_of_item(&expect::item(item));
             let told = expect::part_of_item(&found);
             assert_eq!(told.as_ptr_range(), part.as_ptr_range());
+            let address = same_address(trail, start, Some(&item));
+            let told = raw_address_before(trail, place);
+            assert_eq!(told, raw_part(trail, address));
+            if let (Some(address), bsm::Item::Record { header, .. }) = (address, found) {
+                tally.address(header.kind.number(), address.len());
+            }
             tally.answer(None);
         }
         _ => tally.answer(None),
@@ -55,6 +62,7 @@ pub fn same_newest(trail: &[u8]) {
         let expected = Some((record.0, expect::item(record.1)));
         assert_eq!(newest.next(), expected, "{}", show(trail));
         assert_eq!(newest.place(), record.0);
+        same_address(trail, record.0, Some(&record.1));
     }
     for _ in 0..2 {
         assert_eq!(newest.next(), None, "{}", show(trail));
@@ -82,6 +90,12 @@ pub fn same_around(tally: &mut Tally, rng: &mut Rng, trail: &[u8], place: usize)
     let more = rng.below(40);
     let longer = [trail, &rng.bytes(more)].concat();
     assert_eq!(bsm::record_before(&longer, place), Ok(before));
+    if let bsm::Before::Record { place, .. } = before {
+        assert_eq!(
+            bsm::address_at(&longer, place),
+            bsm::address_at(trail, place)
+        );
+    }
 
     let (front, need) = match before {
         // Around the bytes that it names.
@@ -95,9 +109,11 @@ pub fn same_around(tally: &mut Tally, rng: &mut Rng, trail: &[u8], place: usize)
     same_before(tally, &bytes, front + place);
     let found = bsm::record_before(&bytes, front + place);
     match before {
-        bsm::Before::Record { place, item } => {
-            let place = front + place;
+        bsm::Before::Record { place: at, item } => {
+            let place = front + at;
             assert_eq!(found, Ok(bsm::Before::Record { place, item }));
+            let address = bsm::address_at(&bytes, place);
+            assert_eq!(address, bsm::address_at(trail, at));
         }
         _ if front + place < need || need == 0 => assert_eq!(found, Ok(before)),
         _ => assert_ne!(found, Ok(before)),

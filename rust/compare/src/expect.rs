@@ -2,9 +2,10 @@
 
 use bsm::{HeaderKind, Reason, Strings};
 use reference as plain;
+use std::net::IpAddr;
 
 /// The reasons in the order of their numbers.
-pub(crate) const REASONS: [Reason; 11] = [
+pub const REASONS: [Reason; 12] = [
     Reason::Short,
     Reason::Place,
     Reason::NotAnItem,
@@ -16,14 +17,15 @@ pub(crate) const REASONS: [Reason; 11] = [
     Reason::TimeRange,
     Reason::NoRoom,
     Reason::TooLarge,
+    Reason::AddressType,
 ];
 
 /// A refusal.
 pub fn refusal(refusal: plain::Refusal) -> bsm::Refusal {
-    let reason = REASONS[usize::from(refusal.number) - 1];
-    assert_eq!(reason.number(), refusal.number);
+    let mut reasons = REASONS.into_iter();
+    let reason = reasons.find(|reason| reason.number() == refusal.number);
     bsm::Refusal {
-        reason,
+        reason: reason.expect("a number of the library"),
         place: refusal.place,
         need: refusal.need,
     }
@@ -42,11 +44,27 @@ pub fn run(run: plain::Run) -> bsm::Run {
     }
 }
 
-/// A header.
-pub fn header(header: plain::Header) -> bsm::Header {
+/// An address of 4 or 16 bytes.
+pub fn address(bytes: &[u8]) -> IpAddr {
+    match *bytes {
+        [a, b, c, d] => IpAddr::from([a, b, c, d]),
+        _ => {
+            let bytes: [u8; 16] = bytes.try_into().expect("4 or 16 bytes");
+            IpAddr::from(bytes)
+        }
+    }
+}
+
+/// What a token that was read has of its address: nothing.
+fn no_address(_: &[u8]) {}
+
+/// A header, without its address.
+pub fn header(header: plain::Header<'_>) -> bsm::Header {
     let mut same = bsm::Header::new(match header.number {
         0x14 => HeaderKind::Header32,
         0x74 => HeaderKind::Header64,
+        0x15 => HeaderKind::Header32Ex,
+        0x79 => HeaderKind::Header64Ex,
         number => panic!("{number:02X} is no header"),
     });
     same.version = header.version;
@@ -57,7 +75,7 @@ pub fn header(header: plain::Header) -> bsm::Header {
     same
 }
 
-/// An item.
+/// An item, without the address in its header.
 pub fn item(item: plain::Item<'_>) -> bsm::Item<'_> {
     match item {
         plain::Item::File {
@@ -93,8 +111,29 @@ pub fn part_of_item<'a>(item: &bsm::Item<'a>) -> &'a [u8] {
     }
 }
 
-/// The varying part of a token, if its kind has one: a text without its zero
-/// byte.
+/// The address in a record's header, where it has one.
+pub fn address_of_item<'a>(item: &plain::Item<'a>) -> Option<&'a [u8]> {
+    match *item {
+        plain::Item::File { .. } => None,
+        plain::Item::Record { header, .. } => {
+            matches!(header.number, 0x15 | 0x79).then_some(header.address)
+        }
+    }
+}
+
+/// The address of an expanded token.
+pub fn address_of_token<'a>(token: &plain::Token<'a>) -> Option<&'a [u8]> {
+    use plain::Token::*;
+    match *token {
+        Subject32Ex(party) | Process32Ex(party) => Some(party.address),
+        Subject64Ex(party) | Process64Ex(party) => Some(party.address),
+        InAddrEx { address } => Some(address),
+        _ => None,
+    }
+}
+
+/// The varying part of a token, if its kind has one that is handed on as it
+/// stands: a text without its zero byte.
 pub fn part_of_token<'a>(token: &bsm::Token<'a>) -> Option<&'a [u8]> {
     use bsm::Token::*;
     match *token {
@@ -106,7 +145,7 @@ pub fn part_of_token<'a>(token: &bsm::Token<'a>) -> Option<&'a [u8]> {
     }
 }
 
-fn party<P>(party: plain::Party<P>) -> bsm::Party<P> {
+fn party<P, A, B>(party: plain::Party<P, A>, address: impl Fn(A) -> B) -> bsm::Party<P, B> {
     bsm::Party {
         audit: party.audit,
         effective_user: party.effective_user,
@@ -116,7 +155,7 @@ fn party<P>(party: plain::Party<P>) -> bsm::Party<P> {
         process: party.process,
         session: party.session,
         port: party.port,
-        address: party.address,
+        address: address(party.address),
     }
 }
 
@@ -149,19 +188,25 @@ fn ipc(fields: plain::IpcPerm) -> bsm::IpcPerm {
 
 /// A function from one of the reference's two token types.
 macro_rules! token_from {
-    ($(#[$about:meta])* $name:ident, $from:ident, $to:ty, $groups:expr) => {
+    ($(#[$about:meta])* $name:ident, $from:ident, $to:ty, $groups:expr, $address:expr) => {
         $(#[$about])*
         pub fn $name<'a>(token: plain::$from<'a>) -> $to {
             use bsm::Token as T;
+            use core::convert::identity as same;
             use plain::$from as F;
             match token {
                 F::Path { text } => T::Path { text },
                 F::Text { text } => T::Text { text },
                 F::Opaque { bytes } => T::Opaque { bytes },
-                F::Subject32(fields) => T::Subject32(party(fields)),
-                F::Process32(fields) => T::Process32(party(fields)),
-                F::Subject64(fields) => T::Subject64(party(fields)),
-                F::Process64(fields) => T::Process64(party(fields)),
+                F::Subject32(fields) => T::Subject32(party(fields, same)),
+                F::Process32(fields) => T::Process32(party(fields, same)),
+                F::Subject64(fields) => T::Subject64(party(fields, same)),
+                F::Process64(fields) => T::Process64(party(fields, same)),
+                F::Subject32Ex(fields) => T::Subject32Ex(party(fields, $address)),
+                F::Process32Ex(fields) => T::Process32Ex(party(fields, $address)),
+                F::Subject64Ex(fields) => T::Subject64Ex(party(fields, $address)),
+                F::Process64Ex(fields) => T::Process64Ex(party(fields, $address)),
+                F::InAddrEx { address: bytes } => T::InAddrEx { address: $address(bytes) },
                 F::Return32 { error, value } => T::Return32 { error, value },
                 F::Return64 { error, value } => T::Return64 { error, value },
                 F::InAddr { address } => T::InAddr { address },
@@ -181,11 +226,11 @@ macro_rules! token_from {
 }
 
 token_from! {
-    /// A token as read.
-    token, Token, bsm::Token<'a>, bsm::Groups::new
+    /// A token as read, without the address of an expanded one.
+    token, Token, bsm::Token<'a>, bsm::Groups::new, no_address
 }
 
 token_from! {
-    /// A token to be written.
-    new_token, WriteToken, bsm::NewToken<'a>, core::convert::identity
+    /// A token to be written; its address has 4 or 16 bytes.
+    new_token, WriteToken, bsm::NewToken<'a>, core::convert::identity, address
 }

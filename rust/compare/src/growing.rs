@@ -50,6 +50,7 @@ impl<'a> Growing<'a> {
                 bsm::Step::Item { place, item: found } => {
                     let (at, whole) = self.whole[self.read];
                     assert_eq!((place, found), (at, expect::item(whole)));
+                    same_address(trail, place, &whole);
                     self.read += 1;
                 }
                 bsm::Step::End => break None,
@@ -76,6 +77,7 @@ impl<'a> Growing<'a> {
                 Ok((place, found)) => {
                     let (at, whole) = self.whole[self.iterated];
                     assert_eq!((place, found), (at, expect::item(whole)));
+                    same_address(trail, place, &whole);
                     self.iterated += 1;
                 }
                 Err(refusal) => {
@@ -95,4 +97,11 @@ impl<'a> Growing<'a> {
             (self.whole.len(), self.whole.len())
         );
     }
+}
+
+/// Compares what is told of the address in a record's header. The item was
+/// read in another copy of the trail.
+fn same_address(trail: &[u8], place: usize, whole: &Item<'_>) {
+    let address = expect::address_of_item(whole).map(expect::address);
+    assert_eq!(bsm::address_at(trail, place), address);
 }

@@ -12,6 +12,7 @@ mod back;
 mod expect;
 mod growing;
 mod lines;
+mod raw;
 mod reading;
 mod shares;
 pub mod soak;
@@ -20,13 +21,14 @@ mod tokens;
 mod writing;
 
 pub use back::{same_around, same_before, same_newest};
-pub use expect::{
-    header, item, new_token, part_of_item, part_of_token, refusal, run, state, token,
-};
+pub use expect::{address, address_of_item, address_of_token, part_of_item, part_of_token};
+pub use expect::{header, item, new_token, refusal, run, state, token, REASONS};
 pub use growing::Growing;
 pub use lines::{same_lines, same_parts};
+pub use raw::{raw_address_before, raw_address_next, raw_addresses, raw_part};
+pub use raw::{raw_token_at, raw_write, raw_written};
 pub use reading::{same_item, same_items, same_run, same_step, show};
 pub use shares::*;
-pub use tally::Tally;
+pub use tally::{Tally, EXPANDED_HEADERS, READ_FAULTS};
 pub use tokens::{same_body, same_token};
 pub use writing::{same_write, Watched};

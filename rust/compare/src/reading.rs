@@ -1,17 +1,18 @@
 //! Reading items, steps and runs on both sides.
 
 use crate::expect;
+use crate::raw::{raw_address_next, raw_addresses, raw_part};
 use crate::tally::Tally;
 use bsm::{Items, Reader, Step};
-use reference::{Answer, Run, State};
+use reference::{Answer, Item, Run, State};
 
 /// Bytes as hexadecimal, for a failed comparison.
 pub fn show(bytes: &[u8]) -> String {
     bytes.iter().map(|byte| format!("{byte:02X}")).collect()
 }
 
-/// Compares the item at a place, its part of the trail included, and gives
-/// the reference's answer.
+/// Compares the item at a place, its part of the trail and its address
+/// included, and gives the reference's answer.
 pub fn same_item<'a>(tally: &mut Tally, trail: &'a [u8], place: usize) -> Answer<'a> {
     tally.input();
     let plain = reference::item_at(trail, place);
@@ -27,6 +28,13 @@ pub fn same_item<'a>(tally: &mut Tally, trail: &'a [u8], place: usize) -> Answer
         _ => None,
     };
     tally.item_answer(trail, place, refusal);
+    let item = match &plain {
+        Answer::Item(item) => Some(item),
+        _ => None,
+    };
+    if let Some(address) = same_address(trail, place, item) {
+        tally.address(trail[place], address.len());
+    }
 
     let parts = (bsm::body_at(trail, place), bsm::name_at(trail, place));
     match expected {
@@ -47,9 +55,30 @@ pub fn same_item<'a>(tally: &mut Tally, trail: &'a [u8], place: usize) -> Answer
     plain
 }
 
+/// Compares what is told of the address in the header of the record at a place,
+/// and where it stands, with that of the item that the reference read there,
+/// and gives it.
+pub(crate) fn same_address<'a>(
+    trail: &[u8],
+    place: usize,
+    plain: Option<&Item<'a>>,
+) -> Option<&'a [u8]> {
+    let address = plain.and_then(expect::address_of_item);
+    let told = bsm::address_at(trail, place);
+    assert_eq!(
+        told,
+        address.map(expect::address),
+        "{place} of {}",
+        show(trail)
+    );
+    assert_eq!(raw_addresses(trail, place), [raw_part(trail, address); 2]);
+    address
+}
+
 /// Compares one step from a state.
 pub fn same_step(trail: &[u8], state: State) {
     let sum = state.records.checked_add(state.files);
+    let mut address = None;
     let expected = if sum.is_none_or(|sum| sum > state.place) {
         Step::Refused(bsm::Refusal {
             reason: bsm::Reason::Place,
@@ -58,10 +87,13 @@ pub fn same_step(trail: &[u8], state: State) {
         })
     } else {
         match reference::item_at(trail, state.place) {
-            Answer::Item(item) => Step::Item {
-                place: state.place,
-                item: expect::item(item),
-            },
+            Answer::Item(item) => {
+                address = same_address(trail, state.place, Some(&item));
+                Step::Item {
+                    place: state.place,
+                    item: expect::item(item),
+                }
+            }
             Answer::End => Step::End,
             Answer::Refused(refusal) if refusal.number == 1 => Step::Short {
                 place: refusal.place,
@@ -80,6 +112,7 @@ pub fn same_step(trail: &[u8], state: State) {
     }
     let found = bsm::next(trail, expect::state(state));
     assert_eq!(found, (expected, after), "{state:?} of {}", show(trail));
+    assert_eq!(raw_address_next(trail, state), raw_part(trail, address));
     let mut reader = Reader::at(expect::state(state));
     assert_eq!((reader.next(trail), reader.state()), (expected, after));
 }
@@ -107,6 +140,7 @@ pub fn same_items(trail: &[u8], state: State) {
     for (place, item) in items {
         let expected = Some(Ok((place, expect::item(item))));
         assert_eq!(found.next(), expected, "{state:?} of {}", show(trail));
+        same_address(trail, place, Some(&item));
     }
     let last = run.refusal.map(|refusal| Err(expect::refusal(refusal)));
     assert_eq!(found.next(), last, "{state:?} of {}", show(trail));

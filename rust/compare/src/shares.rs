@@ -12,11 +12,11 @@ pub const AIMED: usize = 45_000;
 /// Prefixes of trails.
 pub const PREFIXES: usize = 500_000;
 /// Places of small trails.
-pub const PLACES: usize = 500_000;
+pub const PLACES: usize = 750_000;
 /// States with wild places and totals.
 pub const STATES: usize = 100_000;
 /// Places of bodies.
-pub const BODIES: usize = 500_000;
+pub const BODIES: usize = 600_000;
 /// Writes.
 pub const WRITES: usize = 150_000;
 /// Writes of records around bodies of every kind.

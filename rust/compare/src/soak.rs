@@ -5,7 +5,7 @@ use crate::expect::{self, REASONS};
 use crate::growing::Growing;
 use crate::lines::{same_lines, same_parts};
 use crate::reading::{same_item, same_items, same_run, same_step};
-use crate::tally::Tally;
+use crate::tally::{Tally, EXPANDED_HEADERS};
 use crate::tokens::{same_body, same_token};
 use crate::writing::same_write;
 use bsm::{Cursor, LINE_MAX};
@@ -148,10 +148,16 @@ pub fn soak(
 }
 
 /// Names of the items' first tokens.
-const ITEMS: [(u8, &str); 3] = [(0x11, "file"), (0x14, "header32"), (0x74, "header64")];
+const ITEMS: [(u8, &str); 5] = [
+    (0x11, "file"),
+    (0x14, "header32"),
+    (0x15, "header32_ex"),
+    (0x74, "header64"),
+    (0x79, "header64_ex"),
+];
 
 /// Names of the body tokens, in the order of [`TOKEN_NUMBERS`].
-const TOKENS: [&str; 20] = [
+const TOKENS: [&str; 25] = [
     "path",
     "subject32",
     "process32",
@@ -172,6 +178,11 @@ const TOKENS: [&str; 20] = [
     "return64",
     "subject64",
     "process64",
+    "subject32_ex",
+    "process32_ex",
+    "subject64_ex",
+    "process64_ex",
+    "in_addr_ex",
 ];
 
 /// The name of an item's first token or of a body token.
@@ -196,6 +207,17 @@ fn words_for(spoilt: Spoilt) -> &'static str {
     }
 }
 
+/// What is wrong with an address, in a few words.
+fn words_for_address(fault: AddressFault) -> &'static str {
+    match fault {
+        AddressFault::Type => "a type that is neither 4 nor 16",
+        AddressFault::Count => "a count too small for the larger address",
+        AddressFault::NoType => "past the body's end before the type's",
+        AddressFault::NoAddress => "past the body's end behind the type",
+        AddressFault::Given => "another length, given to the writer",
+    }
+}
+
 /// What stands before a place, in a few words.
 fn words_before(ending: Ending) -> &'static str {
     match ending {
@@ -215,6 +237,7 @@ fn words_before(ending: Ending) -> &'static str {
 fn words_beside(beside: Beside) -> String {
     match beside {
         Beside::Nothing => "nothing else".into(),
+        Beside::Address => "the address, told first".into(),
         Beside::Length => "the length, told first".into(),
         Beside::Seconds => "seconds too large".into(),
         Beside::Nanoseconds => "nanoseconds too large".into(),
@@ -223,6 +246,7 @@ fn words_beside(beside: Beside) -> String {
         Beside::Room => "the room".into(),
         Beside::Several => "several".into(),
         Beside::LengthAndMore => "the length, told first, and more".into(),
+        Beside::AddressAndMore => "the address, told first, and more".into(),
     }
 }
 
@@ -230,29 +254,50 @@ impl Display for Soaked {
     fn fmt(&self, f: &mut Formatter<'_>) -> fmt::Result {
         let tally = &self.tally;
         writeln!(f, "{} seeds, {} inputs", self.seeds, tally.inputs())?;
-        let (none, refusals) = tally.answers();
         writeln!(f, "answers")?;
-        writeln!(f, "{:>12}  not refused", none)?;
-        for (at, times) in refusals.iter().enumerate() {
-            writeln!(f, "{times:>12}  {:>2} {}", at + 1, REASONS[at])?;
+        writeln!(f, "{:>12}  not refused", tally.answers().0)?;
+        for reason in REASONS {
+            let number = reason.number();
+            let times = tally.refused_times(number);
+            writeln!(f, "{times:>12}  {number:>2} {reason}")?;
         }
-        writeln!(f, "refusal 8, by what offends")?;
-        for kind in SPOILT_ITEMS.into_iter().chain(SPOILT_CALLS) {
-            let (number, spoilt) = kind;
-            let (times, name) = (tally.spoilt_times(kind), name_of(number));
-            writeln!(f, "{times:>12}  {number:02X} {name}: {}", words_for(spoilt))?;
-        }
-        writeln!(f, "versions over 255 to be written, by what else is wrong")?;
-        for kind in LARGE_VERSIONS {
-            let (times, name) = (tally.version_times(kind), name_of(kind.0));
-            let words = words_beside(kind.1);
-            writeln!(f, "{times:>12}  {:02X} {name}: {words}", kind.0)?;
-        }
+        self.show_what_offends(f)?;
         writeln!(f, "steps back, by what stands before the place")?;
         for ending in ENDINGS {
             let times = tally.ending_times(ending);
             writeln!(f, "{times:>12}  {}", words_before(ending))?;
         }
+        self.show_kinds(f)
+    }
+}
+
+impl Soaked {
+    /// What offends, by the header or token.
+    fn show_what_offends(&self, f: &mut Formatter<'_>) -> fmt::Result {
+        let tally = &self.tally;
+        writeln!(f, "refusal 8, by what offends")?;
+        for kind in SPOILT_ITEMS.into_iter().chain(SPOILT_CALLS) {
+            show_one(f, tally.spoilt_times(kind), kind.0, words_for(kind.1))?;
+        }
+        writeln!(f, "addresses refused, by what offends")?;
+        for kind in ADDRESS_FAULTS.into_iter().chain(CALL_ADDRESS_FAULTS) {
+            show_one(
+                f,
+                tally.fault_times(kind),
+                kind.0,
+                words_for_address(kind.1),
+            )?;
+        }
+        writeln!(f, "versions over 255 to be written, by what else is wrong")?;
+        for kind in LARGE_VERSIONS {
+            show_one(f, tally.version_times(kind), kind.0, words_beside(kind.1))?;
+        }
+        Ok(())
+    }
+
+    /// Each kind of item, token and address.
+    fn show_kinds(&self, f: &mut Formatter<'_>) -> fmt::Result {
+        let tally = &self.tally;
         writeln!(f, "items accepted")?;
         for (number, name) in ITEMS {
             writeln!(f, "{:>12}  {number:02X} {name}", tally.times(number))?;
@@ -261,8 +306,20 @@ impl Display for Soaked {
         for (number, name) in TOKEN_NUMBERS.iter().zip(TOKENS) {
             writeln!(f, "{:>12}  {number:02X} {name}", tally.times(*number))?;
         }
+        writeln!(f, "addresses read or written")?;
+        for number in EXPANDED_HEADERS.into_iter().chain(EXPANDED_NUMBERS) {
+            for length in [4, 16] {
+                let times = tally.address_times(number, length);
+                show_one(f, times, number, format_args!("{length} bytes"))?;
+            }
+        }
         Ok(())
     }
+}
+
+/// A line on the header or token with this number.
+fn show_one(f: &mut Formatter<'_>, times: usize, number: u8, words: impl Display) -> fmt::Result {
+    writeln!(f, "{times:>12}  {number:02X} {}: {words}", name_of(number))
 }
 
 #[cfg(test)]

@@ -1,23 +1,39 @@
 //! Counting what was compared.
 
+use generator::{address_fault, body_address_fault, call_address_fault};
 use generator::{large_version, spoilt_body, spoilt_call, spoilt_item, spoilt_token};
-use generator::{Beside, Ending, Spoilt, WriteArgs, ENDINGS, LARGE_VERSIONS, TOKEN_NUMBERS};
+use generator::{AddressFault, Beside, Ending, Spoilt, WriteArgs};
+use generator::{ENDINGS, LARGE_VERSIONS, TOKEN_NUMBERS};
 use reference::Refusal;
 use std::collections::BTreeMap;
+use std::fmt::Debug;
 
 /// How often a refusal, a kind of it or a token kind must come at least.
 const OFTEN: usize = 100;
+
+/// What can be wrong with an address where something is read.
+pub const READ_FAULTS: [AddressFault; 4] = [
+    AddressFault::Type,
+    AddressFault::Count,
+    AddressFault::NoType,
+    AddressFault::NoAddress,
+];
+
+/// The numbers of the headers with an address.
+pub const EXPANDED_HEADERS: [u8; 2] = [0x15, 0x79];
 
 /// Counters of one test.
 #[derive(Clone, Debug)]
 pub struct Tally {
     inputs: usize,
     ends: usize,
-    refusals: [usize; 12],
+    refusals: [usize; 14],
     kinds: [usize; 256],
     texts: BTreeMap<(u8, Spoilt), usize>,
     versions: BTreeMap<(u8, Beside), usize>,
     endings: BTreeMap<Ending, usize>,
+    addresses: BTreeMap<(u8, usize), usize>,
+    faults: BTreeMap<(u8, AddressFault), usize>,
 }
 
 impl Default for Tally {
@@ -32,11 +48,13 @@ impl Tally {
         Tally {
             inputs: 0,
             ends: 0,
-            refusals: [0; 12],
+            refusals: [0; 14],
             kinds: [0; 256],
             texts: BTreeMap::new(),
             versions: BTreeMap::new(),
             endings: BTreeMap::new(),
+            addresses: BTreeMap::new(),
+            faults: BTreeMap::new(),
         }
     }
 
@@ -58,22 +76,26 @@ impl Tally {
         }
     }
 
-    /// The same of the item at `start`; for 8 also what offends.
+    /// The same of the item at `start`; for 8, and where an address is why,
+    /// also what offends.
     pub fn item_answer(&mut self, trail: &[u8], start: usize, refusal: Option<Refusal>) {
         self.answer(refusal);
         self.spoilt(refusal, |place| spoilt_item(trail, start, place));
+        self.fault(refusal, |refusal| address_fault(trail, start, refusal));
     }
 
     /// The same of a whole body.
     pub fn body_answer(&mut self, body: &[u8], refusal: Option<Refusal>) {
         self.answer(refusal);
         self.spoilt(refusal, |place| spoilt_body(body, place));
+        self.fault(refusal, |refusal| body_address_fault(body, refusal));
     }
 
     /// The same of the token at `start`.
     pub fn token_answer(&mut self, body: &[u8], start: usize, refusal: Option<Refusal>) {
         self.answer(refusal);
         self.spoilt(refusal, |place| spoilt_token(body, start, place));
+        self.fault(refusal, |refusal| body_address_fault(body, refusal));
     }
 
     /// The same of a writer and its room; for a version over 255 also what
@@ -81,6 +103,7 @@ impl Tally {
     pub fn write_answer(&mut self, args: &WriteArgs, room: usize, refusal: Option<Refusal>) {
         self.answer(refusal);
         self.spoilt(refusal, |place| spoilt_call(args, place));
+        self.fault(refusal, |refusal| call_address_fault(args, refusal));
         if let Some(kind) = large_version(args, room) {
             *self.versions.entry(kind).or_insert(0) += 1;
         }
@@ -94,6 +117,23 @@ impl Tally {
         {
             *self.texts.entry(told(place)).or_insert(0) += 1;
         }
+    }
+
+    /// Counts what is wrong with an address where a refusal is for that.
+    fn fault(
+        &mut self,
+        refusal: Option<Refusal>,
+        told: impl Fn(&Refusal) -> Option<(u8, AddressFault)>,
+    ) {
+        if let Some(kind) = refusal.as_ref().and_then(told) {
+            *self.faults.entry(kind).or_insert(0) += 1;
+        }
+    }
+
+    /// One address of so many bytes that was read, or given to be written, in
+    /// the header or token with this number.
+    pub fn address(&mut self, number: u8, length: usize) {
+        *self.addresses.entry((number, length)).or_insert(0) += 1;
     }
 
     /// One step back that met this.
@@ -117,20 +157,21 @@ impl Tally {
         for (sum, more) in self.kinds.iter_mut().zip(other.kinds) {
             *sum += more;
         }
-        for (kind, more) in &other.texts {
-            *self.texts.entry(*kind).or_insert(0) += more;
-        }
-        for (kind, more) in &other.versions {
-            *self.versions.entry(*kind).or_insert(0) += more;
-        }
-        for (kind, more) in &other.endings {
-            *self.endings.entry(*kind).or_insert(0) += more;
-        }
+        add_counts(&mut self.texts, &other.texts);
+        add_counts(&mut self.versions, &other.versions);
+        add_counts(&mut self.endings, &other.endings);
+        add_counts(&mut self.addresses, &other.addresses);
+        add_counts(&mut self.faults, &other.faults);
     }
 
     /// How often no refusal came, and each of the refusals from 1 on.
     pub fn answers(&self) -> (usize, &[usize]) {
         (self.ends, &self.refusals[1..])
+    }
+
+    /// How often this refusal came.
+    pub fn refused_times(&self, number: u8) -> usize {
+        self.refusals[usize::from(number)]
     }
 
     /// How often tokens or items of this kind came.
@@ -155,11 +196,23 @@ impl Tally {
         self.endings.get(&ending).copied().unwrap_or(0)
     }
 
+    /// How often the header or token with this number had, or was to be given,
+    /// an address of so many bytes.
+    pub fn address_times(&self, number: u8, length: usize) -> usize {
+        self.addresses.get(&(number, length)).copied().unwrap_or(0)
+    }
+
+    /// How often this was wrong with the address of the header or token with
+    /// this number.
+    pub fn fault_times(&self, kind: (u8, AddressFault)) -> usize {
+        self.faults.get(&kind).copied().unwrap_or(0)
+    }
+
     /// Prints the counters and asserts the share of inputs, and that each of
     /// these refusals, and an answer without one, came often.
     pub fn finish(&self, test: &str, share: usize, refusals: impl IntoIterator<Item = u8>) {
         println!(
-            "{test}: {} inputs, {} not refused, refusals 1 to 11: {:?}",
+            "{test}: {} inputs, {} not refused, refusals 1 to 13: {:?}",
             self.inputs,
             self.ends,
             &self.refusals[1..]
@@ -167,68 +220,95 @@ impl Tally {
         assert!(self.inputs >= share, "{test}: {} inputs", self.inputs);
         assert!(self.ends >= OFTEN, "{test}: {} not refused", self.ends);
         for number in refusals {
-            let times = self.refusals[usize::from(number)];
+            let times = self.refused_times(number);
             assert!(times >= OFTEN, "{test}: refusal {number} {times} times");
         }
-    }
-
-    fn show_texts(&self, test: &str) {
-        let kinds = self.texts.iter();
-        let shown: Vec<String> = kinds
-            .map(|((number, way), times)| format!("{number:02X} {way:?} {times}"))
-            .collect();
-        println!("{test}: texts {}", shown.join(", "));
     }
 
     /// Prints what offended in texts that are refused with 8, and asserts that
     /// each of these kinds came often.
     pub fn finish_texts(&self, test: &str, kinds: &[(u8, Spoilt)]) {
-        self.show_texts(test);
-        for kind in kinds {
-            let times = self.spoilt_times(*kind);
-            assert!(times >= OFTEN, "{test}: {kind:02X?} {times} times");
-        }
+        println!("{test}: texts {}", shown(&self.texts));
+        each_often(test, kinds, |kind| self.spoilt_times(kind));
     }
 
     /// The same of the ways to offend, whatever the token.
     pub fn finish_ways(&self, test: &str, ways: &[Spoilt]) {
-        self.show_texts(test);
-        for way in ways {
-            let of_it = self.texts.iter().filter(|((_, found), _)| found == way);
-            let times: usize = of_it.map(|(_, times)| times).sum();
-            assert!(times >= OFTEN, "{test}: {way:?} {times} times");
-        }
+        println!("{test}: texts {}", shown(&self.texts));
+        each_often(test, ways, |way| of_way(&self.texts, way));
     }
 
     /// Prints what was wrong beside versions over 255, and asserts that each
     /// came often.
     pub fn finish_versions(&self, test: &str) {
-        let kinds = self.versions.iter();
-        let shown: Vec<String> = kinds
-            .map(|((number, beside), times)| format!("{number:02X} {beside:?} {times}"))
-            .collect();
-        println!("{test}: versions over 255 {}", shown.join(", "));
-        for kind in LARGE_VERSIONS {
-            let times = self.version_times(kind);
-            assert!(times >= OFTEN, "{test}: {kind:02X?} {times} times");
+        println!("{test}: versions over 255 {}", shown(&self.versions));
+        each_often(test, &LARGE_VERSIONS, |kind| self.version_times(kind));
+    }
+
+    /// Prints what was wrong with addresses, and asserts that each of these
+    /// came often.
+    pub fn finish_faults(&self, test: &str, kinds: &[(u8, AddressFault)]) {
+        println!("{test}: addresses refused {}", shown(&self.faults));
+        each_often(test, kinds, |kind| self.fault_times(kind));
+    }
+
+    /// The same of what can be wrong with them, whatever the header or token.
+    pub fn finish_fault_ways(&self, test: &str, ways: &[AddressFault]) {
+        println!("{test}: addresses refused {}", shown(&self.faults));
+        each_often(test, ways, |way| of_way(&self.faults, way));
+    }
+
+    /// Prints how often addresses of either length came in the headers or
+    /// tokens with these numbers, and asserts that each came often.
+    pub fn finish_addresses(&self, test: &str, numbers: &[u8]) {
+        for length in [4, 16] {
+            let times = |number| self.address_times(number, length);
+            let all: Vec<usize> = numbers.iter().map(|number| times(*number)).collect();
+            println!("{test}: addresses of {length} bytes in {numbers:02X?} {all:?}");
+            each_often(test, numbers, times);
         }
     }
 
     /// Prints what steps back met, and asserts that each came often.
     pub fn finish_endings(&self, test: &str) {
         println!("{test}: before places {:?}", self.endings);
-        for kind in ENDINGS {
-            let times = self.ending_times(kind);
-            assert!(times >= OFTEN, "{test}: {kind:?} {times} times");
-        }
+        each_often(test, &ENDINGS, |ending| self.ending_times(ending));
     }
 
-    /// Asserts that each of the twenty token kinds came often.
+    /// Asserts that each of the twenty-five token kinds came often.
     pub fn finish_kinds(&self, test: &str) {
-        let times = TOKEN_NUMBERS.map(|number| self.kinds[usize::from(number)]);
+        let times = TOKEN_NUMBERS.map(|number| self.times(number));
         println!("{test}: kinds {times:?}");
-        for (number, times) in TOKEN_NUMBERS.iter().zip(times) {
-            assert!(times >= OFTEN, "{test}: token {number:02X} {times} times");
-        }
+        each_often(test, &TOKEN_NUMBERS, |number| self.times(number));
+    }
+}
+
+/// Counters by a number and a way, as they are printed.
+fn shown<W: Debug>(counts: &BTreeMap<(u8, W), usize>) -> String {
+    let shown: Vec<String> = counts
+        .iter()
+        .map(|((number, way), times)| format!("{number:02X} {way:?} {times}"))
+        .collect();
+    shown.join(", ")
+}
+
+/// The sum of those of one way.
+fn of_way<W: PartialEq>(counts: &BTreeMap<(u8, W), usize>, way: W) -> usize {
+    let of_it = counts.iter().filter(|((_, found), _)| *found == way);
+    of_it.map(|(_, times)| times).sum()
+}
+
+/// Asserts that each of these came often.
+fn each_often<K: Copy + Debug>(test: &str, kinds: &[K], times: impl Fn(K) -> usize) {
+    for kind in kinds {
+        let times = times(*kind);
+        assert!(times >= OFTEN, "{test}: {kind:02X?} {times} times");
+    }
+}
+
+/// Adds the counters of another map.
+fn add_counts<K: Copy + Ord>(sums: &mut BTreeMap<K, usize>, more: &BTreeMap<K, usize>) {
+    for (kind, times) in more {
+        *sums.entry(*kind).or_insert(0) += times;
     }
 }

@@ -1,13 +1,14 @@
 //! Reading body tokens on both sides.
 
 use crate::expect;
+use crate::raw::{raw_part, raw_token_at};
 use crate::reading::show;
 use crate::tally::Tally;
 use bsm::{Token, TokenAt};
 use reference::TokenAnswer;
 
-/// Compares the token at a place of a body, where its varying part stands,
-/// and the text access there.
+/// Compares the token at a place of a body, where its varying part or its
+/// address stands, and the text and address accesses there.
 pub fn same_token(tally: &mut Tally, body: &[u8], place: usize) {
     tally.input();
     let plain = reference::token_at(body, place);
@@ -22,6 +23,8 @@ pub fn same_token(tally: &mut Tally, body: &[u8], place: usize) {
     let found = bsm::token_at(body, place);
     assert_eq!(found, expected, "token at {place} of {}", show(body));
 
+    same_told_address(body, place, plain);
+
     let string = bsm::text_at(body, place);
     let plain_string = reference::text_at(body, place);
     assert_eq!(string.unwrap_or_default(), plain_string);
@@ -31,9 +34,22 @@ pub fn same_token(tally: &mut Tally, body: &[u8], place: usize) {
     };
     tally.token_answer(body, place, refusal);
     match (found, plain) {
-        (Ok(Some(found)), TokenAnswer::Token { start, length, .. }) => {
+        (
+            Ok(Some(found)),
+            TokenAnswer::Token {
+                token,
+                start,
+                length,
+                ..
+            },
+        ) => {
             tally.kind(found.token.number());
-            same_part(body, &found.token, start, length);
+            if let Some(address) = expect::address_of_token(&token) {
+                tally.address(token.number(), address.len());
+                same_address(body, place, address);
+            } else {
+                same_part(body, &found.token, start, length);
+            }
             match found.token {
                 Token::Path { text } | Token::Text { text } => {
                     assert_eq!(string.map(<[u8]>::as_ptr), Some(text.as_ptr()));
@@ -43,6 +59,27 @@ pub fn same_token(tally: &mut Tally, body: &[u8], place: usize) {
         }
         _ => assert_eq!(string, None),
     }
+}
+
+/// Compares the address that is told for a place of a body: that of an expanded
+/// token, and none for any other answer.
+fn same_told_address(body: &[u8], place: usize, plain: TokenAnswer<'_>) {
+    let expected = match plain {
+        TokenAnswer::Token { token, .. } => expect::address_of_token(&token),
+        TokenAnswer::End | TokenAnswer::Refused(_) => None,
+    };
+    let found = bsm::token_address_at(body, place);
+    let expected = expected.map(expect::address);
+    assert_eq!(found, expected, "address at {place} of {}", show(body));
+}
+
+/// Asserts that the token at a place of a body has its address there, and its
+/// length as type.
+fn same_address(body: &[u8], place: usize, address: &[u8]) {
+    let told = raw_token_at(body, place);
+    let part = raw_part(body, Some(address));
+    assert_eq!((told.start, told.length), (part.start, part.length));
+    assert_eq!(told.count, part.length);
 }
 
 /// Asserts that a token's varying part stands at `start` and has `length`
@@ -87,13 +124,17 @@ pub fn same_body(tally: &mut Tally, body: &[u8]) {
 
     let mut tokens = bsm::tokens(body);
     let mut place = 0;
-    while let TokenAnswer::Token { token, size, .. } = reference::token_at(body, place) {
-        tally.kind(token.number());
+    loop {
         assert_eq!(tokens.place(), place);
+        let plain = reference::token_at(body, place);
+        same_told_address(body, place, plain);
+        let TokenAnswer::Token { token, size, .. } = plain else {
+            break;
+        };
+        tally.kind(token.number());
         assert_eq!(tokens.next(), Some(Ok(expect::token(token))));
         place += size;
     }
-    assert_eq!(tokens.place(), place);
     assert_eq!(tokens.next(), expected.err().map(Err));
     assert_eq!(tokens.next(), None);
 }

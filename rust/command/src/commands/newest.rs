@@ -4,6 +4,7 @@ use super::Subcommand;
 use crate::args::{read, Halt};
 use crate::choice::{number, number_in, Choice, HELP};
 use crate::each::show_each;
+use crate::fields::Shown;
 use crate::form::Form;
 use crate::output::{say, say_unread, title, Output};
 use crate::reading::{say_stop, Stop, View};
@@ -132,8 +133,14 @@ impl Newest<'_> {
                     if self.view.choice.takes(&item) {
                         self.left -= 1;
                         let name = self.name.as_encoded_bytes();
+                        let shown = Shown {
+                            bytes,
+                            base,
+                            at,
+                            item,
+                        };
                         let form = self.view.form;
-                        form.write_item(self.out, name, bytes, base + place, &item)
+                        form.write_item(self.out, name, &shown)
                             .map_err(Failure::Output)?;
                     }
                 }

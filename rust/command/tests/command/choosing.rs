@@ -81,6 +81,12 @@ fn parties(body: &[u8]) -> Vec<(Vec<u32>, u32)> {
             Token::Subject64(p) | Token::Process64(p) => {
                 found.push((vec![p.audit, p.effective_user, p.real_user], p.session));
             }
+            Token::Subject32Ex(p) | Token::Process32Ex(p) => {
+                found.push((vec![p.audit, p.effective_user, p.real_user], p.session));
+            }
+            Token::Subject64Ex(p) | Token::Process64Ex(p) => {
+                found.push((vec![p.audit, p.effective_user, p.real_user], p.session));
+            }
             _ => {}
         }
     }
@@ -102,18 +108,28 @@ fn trail(rng: &mut Rng) -> Vec<u8> {
         // No record has two subjects.
         for i in 0..rng.below(3) {
             let first = rng.below(6) as u32;
-            let kinds = if i == 0 { 4 } else { 2 };
+            let address = rng.pick(&ADDRESSES);
+            let kinds = if i == 0 { 8 } else { 4 };
             tokens.push(match rng.below(kinds) {
                 0 => NewToken::Process32(party(first, 1)),
                 1 => NewToken::Process64(party(first, 1)),
-                2 => NewToken::Subject32(party(first, 1)),
-                _ => NewToken::Subject64(party(first, 1)),
+                2 => NewToken::Process32Ex(party_at(first, 1, address)),
+                3 => NewToken::Process64Ex(party_at(first, 1, address)),
+                4 => NewToken::Subject32(party(first, 1)),
+                5 => NewToken::Subject64(party(first, 1)),
+                6 => NewToken::Subject32Ex(party_at(first, 1, address)),
+                _ => NewToken::Subject64Ex(party_at(first, 1, address)),
             });
             tokens.push(NewToken::Seq { sequence: 3 });
         }
         let mut header = header(rng.below(3) as u16, rng.below(4) as u64);
         header.nanoseconds = rng.below(3) as u64;
-        trail.extend(record(&header, &tokens));
+        trail.extend(if rng.chance(3) {
+            header.kind = bsm::HeaderKind::Header32Ex;
+            record_ex(&header, rng.pick(&ADDRESSES), &tokens)
+        } else {
+            record(&header, &tokens)
+        });
     }
     trail
 }
@@ -195,19 +211,23 @@ fn chosen_items_are_those_asked_for() {
 /// Each user of a party counts, its groups and its process do not.
 #[test]
 fn users_are_audit_effective_and_real() {
-    let token = [NewToken::Process64(party(100, 1))];
-    let trail = record(&header(1, 2), &token);
-    for number in 99..110 {
-        let shown = |option: &str| {
-            let words = ["print".into(), format!("{option}={number}")];
-            !fed(bsm(words), &trail).stdout.is_empty()
-        };
-        assert_eq!(
-            shown("--user"),
-            [100, 101, 103].contains(&number),
-            "{number}"
-        );
-        assert_eq!(shown("--session"), number == 106, "{number}");
+    for token in [
+        NewToken::Process64(party(100, 1)),
+        NewToken::Subject32Ex(party_at(100, 1, ADDRESSES[0])),
+        NewToken::Process32Ex(party_at(100, 1, ADDRESSES[1])),
+        NewToken::Subject64Ex(party_at(100, 1, ADDRESSES[2])),
+        NewToken::Process64Ex(party_at(100, 1, ADDRESSES[3])),
+    ] {
+        let trail = record(&header(1, 2), &[token]);
+        for number in 99..110 {
+            let shown = |option: &str| {
+                let words = ["print".into(), format!("{option}={number}")];
+                !fed(bsm(words), &trail).stdout.is_empty()
+            };
+            let is_user = [100, 101, 103].contains(&number);
+            assert_eq!(shown("--user"), is_user, "{token:?}, {number}");
+            assert_eq!(shown("--session"), number == 106, "{token:?}, {number}");
+        }
     }
 }
 

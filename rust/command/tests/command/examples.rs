@@ -2,7 +2,7 @@
 
 use crate::run::*;
 use crate::trails::*;
-use bsm::Token;
+use bsm::{NewToken, Token};
 use std::fs::{self, File};
 use std::path::{Path, PathBuf};
 use std::process::Command;
@@ -60,6 +60,21 @@ fn example_in_rust(scratch: &Scratch) -> PathBuf {
     scratch.path().join("target/debug/user")
 }
 
+/// Each kind of subject and process token, of session 7.
+fn parties() -> [NewToken<'static>; 8] {
+    let [four, sixteen, ..] = ADDRESSES;
+    [
+        Token::Subject32(party(1, 1)),
+        Token::Process32(party(1, 1)),
+        Token::Subject64(party(1, 1)),
+        Token::Process64(party(1, 1)),
+        Token::Subject32Ex(party_at(1, 1, four)),
+        Token::Process32Ex(party_at(1, 1, sixteen)),
+        Token::Subject64Ex(party_at(1, 1, sixteen)),
+        Token::Process64Ex(party_at(1, 1, four)),
+    ]
+}
+
 #[test]
 fn both_find_the_session() {
     let scratch = Scratch::new();
@@ -102,6 +117,12 @@ fn both_find_the_session() {
         assert_eq!(lines[2..], ["\t/a"]);
         assert_eq!((found.status, &found.stderr[..]), (0, ""));
         assert_eq!(run("8", &trail).stdout, b"");
+        for token in parties() {
+            let record = record(&header(1, 5), &[token]);
+            let one = text(&run("7", &record).stdout).to_string();
+            assert_eq!(one, "0\tevent 1\t5.000000000\tuser 1\n", "{token:?}");
+            assert_eq!(run("6", &record).stdout, b"");
+        }
 
         let short = run("7", &trail[..trail.len() - 1]);
         assert_eq!(text(&short.stdout), first);

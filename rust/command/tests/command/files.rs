@@ -156,7 +156,7 @@ fn headings() {
         let (_, rest) = line.split_once("\"trail\":\"").expect("its trail");
         rest.split_once('"').expect("its end").0
     });
-    assert!(names.eq(["good", "good", "refused", "refused"]));
+    assert!(names.eq([["good"; 4], ["refused"; 4]].concat()));
     let standard = fed(scratch.bsm(["list", "good", "-"]), b"");
     let end = "\n==> standard input <==\nbsmlist\t1\nE\t0\t0\n";
     assert!(text(&standard.stdout).ends_with(end));

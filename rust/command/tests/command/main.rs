@@ -11,6 +11,7 @@ mod follow;
 mod help;
 mod launchers;
 mod listing;
+mod mistyped;
 mod newest;
 mod printing;
 mod run;

@@ -55,7 +55,7 @@ fn generated_trails_read_back() {
 #[test]
 fn damaged_and_cut_trails_print_what_was_accepted() {
     let mut rng = Rng::new(812);
-    for number in 1..=9 {
+    for number in READ_REFUSALS {
         if number != 2 {
             let mut trail = good_trail(&mut rng, 5);
             trail.extend(targeted(&mut rng, number).0);
@@ -66,6 +66,40 @@ fn damaged_and_cut_trails_print_what_was_accepted() {
     for end in [1, trail.len() / 2, trail.len() - 1] {
         reads_back(&trail[..end]);
     }
+}
+
+/// Addresses of both kinds, in headers and tokens, in the form that people
+/// know.
+#[test]
+fn addresses_are_printed_as_usual_and_read_back() {
+    let shown = ["192.0.2.7", "2001:db8::7", "::1", "::ffff:192.0.2.7"];
+    for (address, shown) in ADDRESSES.into_iter().zip(shown) {
+        let mut header = header(1, 2);
+        header.kind = bsm::HeaderKind::Header64Ex;
+        let trail = record_ex(&header, address, &[bsm::Token::InAddrEx { address }]);
+        reads_back(&trail);
+        let printed = fed(bsm(["print"]), &trail).stdout;
+        let (item, token) = text(&printed).split_once('\n').expect("two lines");
+        assert!(item.ends_with(&format!(" modifier=0 address={shown}")));
+        assert_eq!(token, format!("    in_addr_ex address={shown}\n"));
+        let printed = fed(bsm(["print", "--json"]), &trail).stdout;
+        let address = format!("\"address\":\"{shown}\"");
+        let header = format!(",\"modifier\":0,{address},\"seconds\":2,");
+        let token = format!("[{{\"token\":\"in_addr_ex\",{address}}}]}}\n");
+        assert!(text(&printed).contains(&header), "{}", text(&printed));
+        assert!(text(&printed).ends_with(&token), "{}", text(&printed));
+    }
+
+    // Zero bytes in any number and at any place, which IPv6's form shortens.
+    let mut rng = Rng::new(814);
+    let mut trail = Vec::new();
+    for _ in 0..2_000 {
+        let sixteen: [u8; 16] = std::array::from_fn(|_| rng.pick(&[0, 0, 0, 1, 0xFF]));
+        let mut header = header(1, 2);
+        header.kind = bsm::HeaderKind::Header32Ex;
+        trail.extend(record_ex(&header, sixteen.into(), &[]));
+    }
+    reads_back(&trail);
 }
 
 /// Seconds of both widths, and the bounds of the fraction.

@@ -1,7 +1,8 @@
 //! Trails for the tests.
 
-use bsm::{write_record, write_token, Header, HeaderKind, IpHeader, IpcPerm, NewToken, Party};
-use bsm::{Strings, Token};
+use bsm::{write_record, write_record_ex, write_token};
+use bsm::{Header, HeaderKind, IpHeader, IpcPerm, NewToken, Party, Refusal, Strings, Token};
+use std::net::{IpAddr, Ipv4Addr, Ipv6Addr};
 
 /// What a trail would write to a terminal if it could: an escape sequence,
 /// line ends, tabs, quotes, Latin-1, UTF-8 and the controls of both.
@@ -10,13 +11,27 @@ pub const STEERING: &[u8] =
 
 /// A record of these tokens.
 pub fn record(header: &Header, tokens: &[NewToken<'_>]) -> Vec<u8> {
+    written(tokens, |dst, body| write_record(dst, header, body))
+}
+
+/// The same with an expanded header that has this address.
+pub fn record_ex(header: &Header, address: IpAddr, tokens: &[NewToken<'_>]) -> Vec<u8> {
+    written(tokens, |dst, body| {
+        write_record_ex(dst, header, address, body)
+    })
+}
+
+fn written(
+    tokens: &[NewToken<'_>],
+    write: impl FnOnce(&mut [u8], &[u8]) -> Result<usize, Refusal>,
+) -> Vec<u8> {
     let mut body = vec![0; 65_536];
     let mut used = 0;
     for token in tokens {
         used += write_token(&mut body[used..], token).expect("a good token");
     }
     let mut record = vec![0; 65_536];
-    let size = write_record(&mut record, header, &body[..used]).expect("a good record");
+    let size = write(&mut record, &body[..used]).expect("a good record");
     record.truncate(size);
     record
 }
@@ -30,8 +45,22 @@ pub fn header(event: u16, seconds: u64) -> Header {
     header
 }
 
+/// Addresses of both kinds, of which the last is an IPv4 address in IPv6's
+/// form.
+pub const ADDRESSES: [IpAddr; 4] = [
+    IpAddr::V4(Ipv4Addr::new(192, 0, 2, 7)),
+    IpAddr::V6(Ipv6Addr::new(0x2001, 0xDB8, 0, 0, 0, 0, 0, 7)),
+    IpAddr::V6(Ipv6Addr::LOCALHOST),
+    IpAddr::V6(Ipv4Addr::new(192, 0, 2, 7).to_ipv6_mapped()),
+];
+
 /// A party with users and session that tell each other apart.
 pub fn party<P>(first: u32, port: P) -> Party<P> {
+    party_at(first, port, 0xC000_0200 + first)
+}
+
+/// The same with this address.
+pub fn party_at<P, A>(first: u32, port: P, address: A) -> Party<P, A> {
     Party {
         audit: first,
         effective_user: first + 1,
@@ -41,7 +70,7 @@ pub fn party<P>(first: u32, port: P) -> Party<P> {
         process: first + 5,
         session: first + 6,
         port,
-        address: 0xC000_0200 + first,
+        address,
     }
 }
 
@@ -116,19 +145,42 @@ pub fn every_token() -> Vec<NewToken<'static>> {
         },
         Token::Subject64(party(30, 1 << 40)),
         Token::Process64(party(40, u64::MAX)),
+        Token::Subject32Ex(party_at(50, 22, ADDRESSES[0])),
+        Token::Process32Ex(party_at(60, 23, ADDRESSES[1])),
+        Token::Subject64Ex(party_at(70, 1 << 40, ADDRESSES[1])),
+        Token::Process64Ex(party_at(80, u64::MAX, ADDRESSES[3])),
+        Token::InAddrEx {
+            address: ADDRESSES[2],
+        },
     ]
 }
 
-/// All of them in two records, so that no record has two subjects, with
-/// fields at their bounds in the second header.
+/// All of them in four records, so that no record has two subjects, one with
+/// each header. The fields of the second header are at their bounds.
 pub fn tokens_trail() -> Vec<u8> {
+    let usual = header(6_152, 1_763_200_000);
     let mut wide = header(u16::MAX, u64::MAX);
     wide.kind = HeaderKind::Header64;
     wide.version = 255;
     wide.modifier = u16::MAX;
     wide.nanoseconds = 999_999_999;
-    let second = |token: &NewToken<'_>| matches!(token, Token::Subject64(_));
-    let (second, first): (Vec<_>, Vec<_>) = every_token().into_iter().partition(second);
-    let first = record(&header(6_152, 1_763_200_000), &first);
-    [first, record(&wide, &second)].concat()
+    let [mut third, mut fourth] = [usual; 2];
+    third.kind = HeaderKind::Header32Ex;
+    fourth.kind = HeaderKind::Header64Ex;
+
+    let mut tokens = every_token();
+    let mut taken = |is_it: fn(&NewToken<'_>) -> bool| {
+        let at = tokens.iter().position(is_it).expect("a token of each kind");
+        [tokens.remove(at)]
+    };
+    let second = taken(|token| matches!(token, Token::Subject64(_)));
+    let small = taken(|token| matches!(token, Token::Subject32Ex(_)));
+    let large = taken(|token| matches!(token, Token::Subject64Ex(_)));
+    [
+        record(&usual, &tokens),
+        record(&wide, &second),
+        record_ex(&third, ADDRESSES[0], &small),
+        record_ex(&fourth, ADDRESSES[1], &large),
+    ]
+    .concat()
 }

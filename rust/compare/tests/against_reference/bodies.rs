@@ -21,8 +21,10 @@ fn tokens_at_all_places() {
             same_token(&mut tally, &body, place);
         }
     }
-    tally.finish("bodies", BODIES, [2, 6, 7, 8]);
+    tally.finish("bodies", BODIES, [2, 6, 7, 8, 13]);
     tally.finish_texts("bodies", SPOILT_BODIES);
+    tally.finish_faults("bodies", BODY_ADDRESS_FAULTS);
+    tally.finish_addresses("bodies", &EXPANDED_NUMBERS);
     tally.finish_kinds("bodies");
 }
 

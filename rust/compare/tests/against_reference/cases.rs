@@ -4,11 +4,12 @@ use bsm::{item_at, Cursor, Item, Reason, Refusal, Token};
 use generator::{page_record, raw_file, raw_record};
 
 /// The header of case 9.
-const HEADER: reference::Header = reference::Header {
+const HEADER: reference::Header<'static> = reference::Header {
     number: 0x14,
     version: 11,
     event: 72,
     modifier: 0,
+    address: &[],
     seconds: 1,
     nanoseconds: 2,
 };
@@ -59,10 +60,10 @@ fn cases_1_to_8_starts_of_items() {
     assert_eq!(item_at(&start(0x1_0000), 0), length);
 }
 
-/// Counts around the bounds of either header.
+/// Counts around the bounds of each header.
 #[test]
 fn counts_around_the_bounds() {
-    for (number, least) in [(0x14, 25), (0x74, 33)] {
+    for (number, least) in [(0x14, 25), (0x15, 33), (0x74, 33), (0x79, 41)] {
         for count in (0..100).chain(65_500..65_600).chain([1 << 24, u32::MAX]) {
             let start = [&[number][..], &count.to_be_bytes()].concat();
             let expected = match count as usize {

@@ -2,6 +2,34 @@
 //! (paper 01, 'Order when writing').
 
 use bsm::{Header, HeaderKind, Item, NewToken, Reason, Refusal, Strings, Token};
+use std::net::{IpAddr, Ipv4Addr, Ipv6Addr};
+
+const IPV4: IpAddr = IpAddr::V4(Ipv4Addr::LOCALHOST);
+const IPV6: IpAddr = IpAddr::V6(Ipv6Addr::LOCALHOST);
+
+/// The kinds of headers, expanded ones with either address, and what stands
+/// around a body.
+const KINDS: [(HeaderKind, Option<IpAddr>, usize); 6] = [
+    (HeaderKind::Header32, None, 25),
+    (HeaderKind::Header64, None, 33),
+    (HeaderKind::Header32Ex, Some(IPV4), 33),
+    (HeaderKind::Header32Ex, Some(IPV6), 45),
+    (HeaderKind::Header64Ex, Some(IPV4), 41),
+    (HeaderKind::Header64Ex, Some(IPV6), 53),
+];
+
+/// Writes a record, with an address where there is one.
+fn write_record(
+    dst: &mut [u8],
+    header: &Header,
+    address: Option<IpAddr>,
+    body: &[u8],
+) -> Result<usize, Refusal> {
+    match address {
+        None => bsm::write_record(dst, header, body),
+        Some(address) => bsm::write_record_ex(dst, header, address, body),
+    }
+}
 
 /// A refusal at place 0.
 fn refused(reason: Reason) -> Result<usize, Refusal> {
@@ -32,8 +60,10 @@ fn accepted(token: &NewToken<'_>, size: usize) {
     let read = bsm::token_at(&bytes, 0).expect("it was written");
     let read = read.expect("it was written");
     assert_eq!(read.size, size);
-    let groups = read.token.map_groups(|groups| groups.into_iter().collect());
-    assert_eq!(groups, token.map_groups(<[u32]>::to_vec));
+    let address = bsm::token_address_at(&bytes, 0);
+    let read = read.token;
+    let read = read.map(|groups| groups.into_iter().collect(), |()| address);
+    assert_eq!(read, token.map(<[u32]>::to_vec, Some));
     assert_eq!(write(token, size - 1).0, refused(Reason::NoRoom));
 }
 
@@ -164,7 +194,7 @@ fn names_of_1_023_and_1_024_bytes() {
 
 #[test]
 fn records_of_65_535_and_65_536_bytes() {
-    for (kind, around) in [(HeaderKind::Header32, 25), (HeaderKind::Header64, 33)] {
+    for (kind, address, around) in KINDS {
         let mut header = Header::new(kind);
         header.version = 11;
         header.event = 1;
@@ -179,7 +209,8 @@ fn records_of_65_535_and_65_536_bytes() {
         };
         let body = body_of(65_535);
         let mut dst = vec![0xA5; 65_600];
-        assert_eq!(bsm::write_record(&mut dst, &header, &body), Ok(65_535));
+        let written = write_record(&mut dst, &header, address, &body);
+        assert_eq!(written, Ok(65_535));
         assert!(dst[65_535..].iter().all(|&byte| byte == 0xA5));
         let item = Item::Record {
             size: 65_535,
@@ -188,15 +219,16 @@ fn records_of_65_535_and_65_536_bytes() {
             tokens: 1,
         };
         assert_eq!(bsm::item_at(&dst[..65_535], 0), Ok(Some(item)));
+        assert_eq!(bsm::address_at(&dst[..65_535], 0), address);
 
         let mut dst = vec![0xA5; 65_600];
-        let small = bsm::write_record(&mut dst[..65_534], &header, &body);
+        let small = write_record(&mut dst[..65_534], &header, address, &body);
         assert_eq!(small, refused(Reason::NoRoom));
         // 4 comes before the other refusals.
         let body = body_of(65_536);
         for nanoseconds in [0, 1_000_000_000, u64::MAX] {
             header.nanoseconds = nanoseconds;
-            let long = bsm::write_record(&mut dst, &header, &body);
+            let long = write_record(&mut dst, &header, address, &body);
             assert_eq!(long, refused(Reason::RecordLength));
         }
         assert!(dst.iter().all(|&byte| byte == 0xA5));
@@ -206,31 +238,81 @@ fn records_of_65_535_and_65_536_bytes() {
 #[test]
 fn times_of_a_record() {
     let body = [0xFF];
-    let write = |kind, seconds, nanoseconds| {
+    let write = |(kind, address), seconds, nanoseconds| {
         let mut dst = [0xA5; 60];
         let mut header = Header::new(kind);
         header.seconds = seconds;
         header.nanoseconds = nanoseconds;
-        let answer = bsm::write_record(&mut dst, &header, &body);
+        let answer = write_record(&mut dst, &header, address, &body);
         assert_eq!(dst, [0xA5; 60]);
         answer
     };
     let over = u64::from(u32::MAX) + 1;
-    let (small, large) = (HeaderKind::Header32, HeaderKind::Header64);
-    // 11 comes before 9, 9 before the body's 6; the times of a header64
-    // have no 11.
-    assert_eq!(write(small, over, 0), refused(Reason::TooLarge));
-    assert_eq!(write(small, 0, over), refused(Reason::TooLarge));
-    assert_eq!(write(small, over - 1, over - 1), refused(Reason::TimeRange));
-    assert_eq!(
-        write(small, over - 1, 999_999_999),
-        refused(Reason::NotABodyToken)
-    );
-    assert_eq!(write(large, u64::MAX, u64::MAX), refused(Reason::TimeRange));
-    assert_eq!(
-        write(large, u64::MAX, 999_999_999),
-        refused(Reason::NotABodyToken)
-    );
+    let last = 999_999_999;
+    // 11 comes before 9, 9 before the body's 6; times of 8 bytes have no 11.
+    for (kind, address, _) in KINDS {
+        let given = (kind, address);
+        match kind {
+            HeaderKind::Header32 | HeaderKind::Header32Ex => {
+                assert_eq!(write(given, over, 0), refused(Reason::TooLarge));
+                assert_eq!(write(given, 0, over), refused(Reason::TooLarge));
+                assert_eq!(write(given, over - 1, over - 1), refused(Reason::TimeRange));
+                assert_eq!(write(given, over - 1, last), refused(Reason::NotABodyToken));
+            }
+            _ => {
+                assert_eq!(write(given, u64::MAX, u64::MAX), refused(Reason::TimeRange));
+                assert_eq!(write(given, u64::MAX, last), refused(Reason::NotABodyToken));
+            }
+        }
+    }
+}
+
+/// An expanded header without an address is refused before all else.
+#[test]
+fn expanded_headers_without_an_address() {
+    let large = vec![0; 65_536];
+    for kind in [HeaderKind::Header32Ex, HeaderKind::Header64Ex] {
+        let mut header = Header::new(kind);
+        for (version, nanoseconds) in [(11, 0), (256, 0), (11, u64::MAX)] {
+            header.version = version;
+            header.nanoseconds = nanoseconds;
+            for body in [&[][..], &[0xFF], &large] {
+                for room in [0, 60] {
+                    let mut dst = vec![0xA5; room];
+                    let answer = bsm::write_record(&mut dst, &header, body);
+                    assert_eq!(answer, refused(Reason::AddressType));
+                    assert!(dst.iter().all(|&byte| byte == 0xA5));
+                }
+            }
+        }
+    }
+}
+
+/// With an address, a header of a plain kind is written as the expanded one
+/// with times as wide.
+#[test]
+fn plain_kinds_with_an_address() {
+    let pairs = [
+        (HeaderKind::Header32, HeaderKind::Header32Ex),
+        (HeaderKind::Header64, HeaderKind::Header64Ex),
+    ];
+    for (plain, expanded) in pairs {
+        for address in [IPV4, IPV6] {
+            let [given, same] = [plain, expanded].map(|kind| {
+                let mut header = Header::new(kind);
+                (header.version, header.event, header.modifier) = (11, 1, 2);
+                (header.seconds, header.nanoseconds) = (3, 4);
+                let mut dst = [0xA5; 60];
+                let size = bsm::write_record_ex(&mut dst, &header, address, &[]);
+                let read = bsm::item_at(&dst, 0).expect("it was written");
+                header.kind = expanded;
+                assert!(matches!(read, Some(Item::Record { header: read, .. }) if read == header));
+                assert_eq!(bsm::address_at(&dst, 0), Some(address));
+                (size, dst)
+            });
+            assert_eq!(given, same);
+        }
+    }
 }
 
 /// Empty slices, whose pointers stand for no memory but are not null.
@@ -245,8 +327,10 @@ fn empty_buffers() {
         (bsm::body_at(bytes, 0), bsm::name_at(bytes, 0)),
         (None, None)
     );
+    assert_eq!(bsm::address_at(bytes, 0), None);
     assert_eq!(bsm::token_at(bytes, 0), Ok(None));
     assert_eq!(bsm::text_at(bytes, 0), None);
+    assert_eq!(bsm::token_address_at(bytes, 0), None);
     assert_eq!(bsm::walk_body(bytes), Ok(0));
 
     accepted(&Token::Opaque { bytes }, 3);

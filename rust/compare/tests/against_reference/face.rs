@@ -8,10 +8,19 @@ use reference::{Answer, Before, Item, Party, Refusal, State, Token, TokenAnswer}
 
 /// Where a part stands in its trail.
 fn start_in(trail: &[u8], part: &[u8]) -> u64 {
-    (part.as_ptr() as usize - trail.as_ptr() as usize) as u64
+    raw_part(trail, Some(part)).start
+}
+
+/// Where the address of the record that an answer tells stands.
+fn raw_address(trail: &[u8], answer: &Answer<'_>) -> bsm_part {
+    match answer {
+        Answer::Item(item) => raw_part(trail, address_of_item(item)),
+        _ => bsm_part::default(),
+    }
 }
 
 fn raw_item(trail: &[u8], answer: Answer<'_>) -> bsm_item {
+    let address = raw_address(trail, &answer);
     match answer {
         Answer::End => bsm_item {
             kind: BSM_END,
@@ -48,6 +57,8 @@ fn raw_item(trail: &[u8], answer: Answer<'_>) -> bsm_item {
             tokens: tokens as u64,
             start: start_in(trail, body),
             length: body.len() as u64,
+            address_start: address.start,
+            address_length: address.length,
             ..bsm_item::default()
         },
         Answer::Refused(refusal) => bsm_item {
@@ -104,7 +115,8 @@ fn raw_before(trail: &[u8], place: usize) -> bsm_before {
     }
 }
 
-fn party<P: Into<u64>>(party: Party<P>) -> Vec<u64> {
+/// The fields of a subject or process token up to its port.
+fn party<P: Into<u64>, A>(party: Party<P, A>) -> Vec<u64> {
     let users = [
         party.audit,
         party.effective_user,
@@ -115,11 +127,17 @@ fn party<P: Into<u64>>(party: Party<P>) -> Vec<u64> {
         party.session,
     ];
     let mut values: Vec<u64> = users.map(u64::from).to_vec();
-    values.extend([party.port.into(), party.address.into()]);
+    values.push(party.port.into());
     values
 }
 
-/// The length, number or count field of a token, and its other fields.
+/// The same and its address.
+fn party_at<P: Into<u64>>(fields: Party<P>) -> Vec<u64> {
+    let address = fields.address.into();
+    [party(fields), vec![address]].concat()
+}
+
+/// The length, number, count or type field of a token, and its other fields.
 fn fields(token: Token<'_>, length: usize) -> (u64, Vec<u64>) {
     let length = length as u64;
     match token {
@@ -132,8 +150,11 @@ fn fields(token: Token<'_>, length: usize) -> (u64, Vec<u64>) {
         Token::Arg64 {
             argument, value, ..
         } => (length, vec![argument.into(), value]),
-        Token::Subject32(fields) | Token::Process32(fields) => (0, party(fields)),
-        Token::Subject64(fields) | Token::Process64(fields) => (0, party(fields)),
+        Token::Subject32(fields) | Token::Process32(fields) => (0, party_at(fields)),
+        Token::Subject64(fields) | Token::Process64(fields) => (0, party_at(fields)),
+        Token::Subject32Ex(fields) | Token::Process32Ex(fields) => (length, party(fields)),
+        Token::Subject64Ex(fields) | Token::Process64Ex(fields) => (length, party(fields)),
+        Token::InAddrEx { .. } => (length, vec![]),
         Token::Return32 { error, value } => (0, vec![error.into(), value.into()]),
         Token::Return64 { error, value } => (0, vec![error.into(), value]),
         Token::InAddr { address } => (0, vec![address.into()]),
@@ -207,29 +228,6 @@ fn raw_token(answer: TokenAnswer<'_>) -> bsm_token {
     }
 }
 
-/// Where a part stands in a buffer, or 0 and 0.
-fn raw_part(bytes: &[u8], part: Option<&[u8]>) -> bsm_part {
-    part.map_or_else(bsm_part::default, |part| bsm_part {
-        start: (part.as_ptr() as usize - bytes.as_ptr() as usize) as u64,
-        length: part.len() as u64,
-    })
-}
-
-fn raw_written(answer: Result<usize, Refusal>) -> bsm_written {
-    match answer {
-        Ok(written) => bsm_written {
-            written: written as u64,
-            ..bsm_written::default()
-        },
-        Err(refusal) => bsm_written {
-            written: 0,
-            number: refusal.number.into(),
-            place: refusal.place as u64,
-            need: refusal.need as u64,
-        },
-    }
-}
-
 #[test]
 fn items_field_by_field() {
     let mut rng = Rng::new(801);
@@ -245,7 +243,10 @@ fn items_field_by_field() {
         tally.input();
         let answer = reference::item_at(&trail, place);
         let (body, name) = match answer {
-            Answer::Item(Item::Record { body, .. }) => (Some(body), None),
+            Answer::Item(Item::Record { header, body, .. }) => {
+                tally.address(header.number, header.address.len());
+                (Some(body), None)
+            }
             Answer::Item(Item::File { name, .. }) => (None, Some(name)),
             _ => (None, None),
         };
@@ -257,6 +258,8 @@ fn items_field_by_field() {
             assert_eq!(found, raw_part(&trail, body));
             let found = bsm_name_at(bytes, length, place);
             assert_eq!(found, raw_part(&trail, name));
+            let found = bsm_address_at(bytes, length, place);
+            assert_eq!(found, raw_address(&trail, &answer));
         }
 
         let run = reference::run(&trail, state);
@@ -282,8 +285,10 @@ fn items_field_by_field() {
             assert_eq!(found, raw_step(&trail, state));
         }
     }
-    tally.finish("items field by field", FACE / 2, 1..=9);
+    tally.finish("items field by field", FACE / 2, READ_REFUSALS);
     tally.finish_texts("items field by field", &SPOILT_ITEMS);
+    tally.finish_faults("items field by field", &ADDRESS_FAULTS);
+    tally.finish_addresses("items field by field", &EXPANDED_HEADERS);
 }
 
 #[test]
@@ -337,6 +342,9 @@ fn tokens_field_by_field() {
             match answer {
                 TokenAnswer::Token { token, size, .. } => {
                     tally.kind(token.number());
+                    if let Some(address) = address_of_token(&token) {
+                        tally.address(token.number(), address.len());
+                    }
                     place += size;
                 }
                 TokenAnswer::End => {
@@ -353,8 +361,10 @@ fn tokens_field_by_field() {
         // SAFETY: as above.
         assert_eq!(unsafe { bsm_walk_body(bytes, length) }, expected);
     }
-    tally.finish("tokens field by field", FACE / 2, [6, 7, 8]);
+    tally.finish("tokens field by field", FACE / 2, [6, 7, 8, 13]);
     tally.finish_texts("tokens field by field", SPOILT_BODIES);
+    tally.finish_faults("tokens field by field", BODY_ADDRESS_FAULTS);
+    tally.finish_addresses("tokens field by field", &EXPANDED_NUMBERS);
     tally.finish_kinds("tokens field by field");
 }
 
@@ -458,11 +468,12 @@ fn constants_of_the_header() {
         ("TIME_RANGE", Reason::TimeRange),
         ("NO_ROOM", Reason::NoRoom),
         ("TOO_LARGE", Reason::TooLarge),
+        ("ADDRESS_TYPE", Reason::AddressType),
     ];
     let refusals = refusals.map(|(name, reason)| (name, reason.number().into()));
     assert_eq!(some("BSM_REFUSAL_"), refusals);
 
-    let mut numbers = [&TOKEN_NUMBERS[..], &[0x11, 0x13, 0x14, 0x74]].concat();
+    let mut numbers = [&TOKEN_NUMBERS[..], &HEADER_NUMBERS, &[0x11, 0x13]].concat();
     numbers.sort();
     let ids: Vec<u64> = some("BSM_ID_").iter().map(|(_, number)| *number).collect();
     assert!(ids.iter().copied().eq(numbers.into_iter().map(u64::from)));

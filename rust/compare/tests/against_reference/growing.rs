@@ -19,8 +19,9 @@ fn cut_at_every_byte() {
         }
         growing.finish();
     }
-    tally.finish("cut at every byte", EVERY_BYTE, 1..=9);
+    tally.finish("cut at every byte", EVERY_BYTE, READ_REFUSALS);
     tally.finish_ways("cut at every byte", &READ_WAYS);
+    tally.finish_fault_ways("cut at every byte", &READ_FAULTS);
 }
 
 #[test]
@@ -35,8 +36,9 @@ fn random_steps() {
         }
         growing.finish();
     }
-    tally.finish("random steps", RANDOM_STEPS, 1..=9);
+    tally.finish("random steps", RANDOM_STEPS, READ_REFUSALS);
     tally.finish_texts("random steps", &SPOILT_ITEMS);
+    tally.finish_faults("random steps", &ADDRESS_FAULTS);
 }
 
 #[test]
@@ -79,6 +81,8 @@ fn one_place_waits_at_most_twice() {
     }
     println!("waits 0, 1, 2: {waits:?}");
     assert!(waits.iter().all(|&times| times >= 1_000));
-    tally.finish("waits", WAITS, [1, 3, 4, 5, 6, 7, 8, 9]);
+    tally.finish("waits", WAITS, [1, 3, 4, 5, 6, 7, 8, 9, 13]);
     tally.finish_ways("waits", &READ_WAYS);
+    tally.finish_fault_ways("waits", &READ_FAULTS);
+    tally.finish_addresses("waits", &EXPANDED_HEADERS);
 }

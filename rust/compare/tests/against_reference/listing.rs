@@ -12,7 +12,7 @@ fn lines() {
         let (trail, from) = any_input(&mut rng);
         same_lines(&mut tally, &mut rng, &trail, from);
     }
-    tally.finish("lines", LINES, 1..=10);
+    tally.finish("lines", LINES, READ_REFUSALS.into_iter().chain([10]));
 }
 
 #[test]
@@ -58,6 +58,7 @@ fn record_with_long_line() -> Vec<u8> {
         version: 255,
         event: u16::MAX,
         modifier: u16::MAX,
+        address: &[],
         seconds: u64::MAX,
         nanoseconds: 999_999_999,
     };

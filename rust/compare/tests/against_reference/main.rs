@@ -4,6 +4,7 @@
 mod bodies;
 mod cases;
 mod edges;
+mod expanded;
 mod face;
 mod failing;
 mod growing;

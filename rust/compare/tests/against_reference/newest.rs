@@ -34,6 +34,7 @@ fn each_place_of_small_trails() {
     }
     tally.finish("steps back", STEPS_BACK, [2]);
     tally.finish_endings("steps back");
+    tally.finish_addresses("steps back", &EXPANDED_HEADERS);
 }
 
 #[test]
@@ -52,6 +53,7 @@ fn aimed_at_each_answer_and_with_other_bytes_around() {
     }
     tally.finish("aimed steps back", AIMED_BACK, [2]);
     tally.finish_endings("aimed steps back");
+    tally.finish_addresses("aimed steps back", &EXPANDED_HEADERS);
 }
 
 /// Whole trails, with file tokens and without, and with what is damaged in
@@ -95,8 +97,8 @@ fn trailers_in_opaques() {
         let mut body = vec![0x29];
         body.extend((held.len() as u16).to_be_bytes());
         body.extend(&held);
-        let mut record = vec![0; header_size(header.number) + body.len() + 7];
-        write_record(&mut record, &header, &body).expect("room enough");
+        let mut record = vec![0; header.size() + body.len() + 7];
+        write_record(&mut record, &header.header(), &body).expect("room enough");
         let trail = [good_record(&mut rng), record.clone()].concat();
         let start = trail.len() - record.len();
 

@@ -4,6 +4,7 @@
 use bsm::{Header, HeaderKind, Reason, Refusal, State, Step};
 use generator::{header_size, raw_file, raw_record};
 use std::mem::replace;
+use std::net::IpAddr;
 use std::ops::Range;
 
 /// The body tokens with a text, and the sizes of their fixed parts, which
@@ -88,6 +89,7 @@ fn record(number: u8, body: &[u8]) -> Vec<u8> {
         version: 11,
         event: 72,
         modifier: 0,
+        address: &[],
         seconds: 1,
         nanoseconds: 2,
     };
@@ -173,11 +175,16 @@ fn names_in_body(body: &[u8], start: usize, place: usize) {
     let refusal = bad_text(place);
     assert_eq!(bsm::token_at(body, start), Err(refusal));
     assert_eq!(bsm::text_at(body, start), None);
+    assert_eq!(bsm::token_address_at(body, start), None);
     assert_eq!(bsm::walk_body(body), Err(refusal));
     assert_eq!(bsm::tokens(body).last(), Some(Err(refusal)));
+    let host = IpAddr::from([192, 0, 2, 7]);
     for kind in [HeaderKind::Header32, HeaderKind::Header64] {
+        let header = Header::new(kind);
         let mut dst = [0xA5; 50];
-        let written = bsm::write_record(&mut dst, &Header::new(kind), body);
+        let written = bsm::write_record(&mut dst, &header, body);
+        assert_eq!((written, dst), (Err(refusal), [0xA5; 50]));
+        let written = bsm::write_record_ex(&mut dst, &header, host, body);
         assert_eq!((written, dst), (Err(refusal), [0xA5; 50]));
     }
     // Places count from the start of the part that is handed on.

@@ -28,8 +28,9 @@ fn all_prefixes() {
             same_item(&mut Tally::new(), prefix, run.state.place);
         }
     }
-    tally.finish("prefixes", PREFIXES, [1, 3, 4, 5, 6, 7, 8, 9]);
+    tally.finish("prefixes", PREFIXES, [1, 3, 4, 5, 6, 7, 8, 9, 13]);
     tally.finish_texts("prefixes", &SPOILT_ITEMS);
+    tally.finish_faults("prefixes", &ADDRESS_FAULTS);
 }
 
 #[test]
@@ -54,6 +55,8 @@ fn all_places() {
             same_item(&mut tally, &trail, place);
         }
     }
-    tally.finish("places", PLACES, 1..=9);
+    tally.finish("places", PLACES, READ_REFUSALS);
     tally.finish_ways("places", &READ_WAYS);
+    tally.finish_fault_ways("places", &READ_FAULTS);
+    tally.finish_addresses("places", &EXPANDED_HEADERS);
 }

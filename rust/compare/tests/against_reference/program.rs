@@ -68,8 +68,11 @@ fn trail_of(rng: &mut Rng, length: usize) -> Vec<u8> {
             let mut body = vec![0x29];
             body.extend((size as u16).to_be_bytes());
             body.extend(rng.bytes(size));
-            let mut header = good_header(rng);
-            header.number = 0x14;
+            let header = reference::Header {
+                number: 0x14,
+                address: &[],
+                ..good_header(rng).fields
+            };
             trail.extend(raw_record(&header, &body));
             return trail;
         }

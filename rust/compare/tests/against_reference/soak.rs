@@ -1,7 +1,8 @@
 //! What `./soak` does with its seeds, on a few of them.
 
 use compare::soak::{compare_seed, soak};
-use generator::{ENDINGS, LARGE_VERSIONS, SPOILT_CALLS, SPOILT_ITEMS, TOKEN_NUMBERS};
+use compare::{EXPANDED_HEADERS, REASONS};
+use generator::*;
 use std::sync::atomic::{AtomicUsize, Ordering};
 
 #[test]
@@ -10,13 +11,28 @@ fn a_few_seeds_meet_every_answer_and_kind() {
     let enough = || asked.fetch_add(1, Ordering::Relaxed) >= 1_000;
     let soaked = soak(901, 1, enough, compare_seed);
     assert_eq!((soaked.seeds, soaked.differs), (1_000, None));
-    let (none, refusals) = soaked.tally.answers();
-    assert_eq!(refusals.len(), 11);
-    assert!(none > 100 && refusals.iter().all(|&times| times > 100));
-    for number in TOKEN_NUMBERS.into_iter().chain([0x11, 0x14, 0x74]) {
+    assert!(soaked.tally.answers().0 > 100);
+    for number in REASONS.map(|reason| reason.number()) {
+        assert!(soaked.tally.refused_times(number) > 100, "{number}");
+    }
+    for number in [&TOKEN_NUMBERS[..], &HEADER_NUMBERS, &[0x11]].concat() {
         assert!(soaked.tally.times(number) > 100, "{number:02X}");
     }
     let shown = soaked.to_string();
+    for kind in ADDRESS_FAULTS.into_iter().chain(CALL_ADDRESS_FAULTS) {
+        let times = soaked.tally.fault_times(kind);
+        assert!(times > 100, "{kind:02X?} {times}");
+        let line = format!("\n{times:>12}  {:02X} ", kind.0);
+        assert!(shown.contains(&line), "{line}");
+    }
+    for number in EXPANDED_NUMBERS.into_iter().chain(EXPANDED_HEADERS) {
+        for length in [4, 16] {
+            let times = soaked.tally.address_times(number, length);
+            assert!(times > 100, "{number:02X}, {length}: {times}");
+            let line = format!("\n{times:>12}  {number:02X} ");
+            assert!(shown.contains(&line), "{line}");
+        }
+    }
     for kind in SPOILT_ITEMS.into_iter().chain(SPOILT_CALLS) {
         let times = soaked.tally.spoilt_times(kind);
         assert!(times > 100, "{kind:02X?} {times}");

@@ -53,9 +53,9 @@ fn every_byte_of_a_long_text() {
             assert_eq!(each_byte(&mut placed), length);
         }
     }
-    let mut largest = in_record(0x14, TOKENS[0], AROUND[0], &text(0, 65_498));
+    let mut largest = in_record(0x14, TOKENS[0], AROUND[0], &text(0, 65_491));
     largest.is_good();
-    for at in [0, 1, 40_000, 65_496].map(|at| largest.text.start + at) {
+    for at in [0, 1, 40_000, 65_489].map(|at| largest.text.start + at) {
         largest.with(at, 0, at);
     }
     let last = largest.text.end - 1;

@@ -3,6 +3,7 @@
 use compare::*;
 use generator::*;
 use reference::State;
+use std::net::IpAddr;
 
 /// Compares all that reads a trail from a state.
 fn same_reading(tally: &mut Tally, trail: &[u8], state: State) -> reference::Run {
@@ -20,8 +21,9 @@ fn mixed_trails() {
         let (trail, state) = any_input(&mut rng);
         same_reading(&mut tally, &trail, state);
     }
-    tally.finish("mixed trails", MIXED, 1..=9);
+    tally.finish("mixed trails", MIXED, READ_REFUSALS);
     tally.finish_texts("mixed trails", &SPOILT_ITEMS);
+    tally.finish_faults("mixed trails", &ADDRESS_FAULTS);
 }
 
 #[test]
@@ -37,16 +39,24 @@ fn good_trails_are_accepted_and_written_again() {
         for item in bsm::Items::new(&trail, bsm::State::default()) {
             let (place, item) = item.expect("a good trail has no refusal");
             assert_eq!(place, used);
-            used += rewritten(&mut tally, &mut again[used..], &item);
+            let address = bsm::address_at(&trail, place);
+            used += rewritten(&mut tally, &mut again[used..], &item, address);
         }
         assert_eq!((used, again), (trail.len(), trail));
     }
     tally.finish("good trails", GOOD, []);
     tally.finish_kinds("good trails");
+    tally.finish_addresses("good trails", &EXPANDED_HEADERS);
 }
 
-/// Writes an item from what was read of it, its body token by token.
-fn rewritten(tally: &mut Tally, dst: &mut [u8], item: &bsm::Item<'_>) -> usize {
+/// Writes an item from what was read of it, and of the address in its header,
+/// its body token by token.
+fn rewritten(
+    tally: &mut Tally,
+    dst: &mut [u8],
+    item: &bsm::Item<'_>,
+    address: Option<IpAddr>,
+) -> usize {
     let written = match *item {
         bsm::Item::File {
             seconds,
@@ -60,22 +70,37 @@ fn rewritten(tally: &mut Tally, dst: &mut [u8], item: &bsm::Item<'_>) -> usize {
             tokens,
             ..
         } => {
+            if let Some(address) = address {
+                let length = if address.is_ipv4() { 4 } else { 16 };
+                tally.address(header.kind.number(), length);
+            }
             let mut again = vec![0; body.len()];
             let mut used = 0;
             let mut count = 0;
-            for token in bsm::tokens(body) {
+            let mut read = bsm::tokens(body);
+            loop {
+                let place = read.place();
+                let Some(token) = read.next() else {
+                    break;
+                };
                 let token = token.expect("a record's body has no refusal");
                 tally.kind(token.number());
                 let mut groups = Vec::new();
-                let new = token.map_groups(|read| {
-                    groups.extend(read);
-                    &groups[..]
-                });
+                let new = token.map(
+                    |read| {
+                        groups.extend(read);
+                        &groups[..]
+                    },
+                    |()| bsm::token_address_at(body, place).expect("it is expanded"),
+                );
                 used += bsm::write_token(&mut again[used..], &new).expect("it was read");
                 count += 1;
             }
             assert_eq!((used, again, count), (body.len(), body.to_vec(), tokens));
-            bsm::write_record(dst, header, body)
+            match address {
+                None => bsm::write_record(dst, header, body),
+                Some(address) => bsm::write_record_ex(dst, header, address, body),
+            }
         }
     };
     assert_eq!(written, Ok(item.size()));
@@ -91,7 +116,7 @@ fn damaged_trails() {
         damage(&mut rng, &mut trail);
         same_reading(&mut tally, &trail, State::default());
     }
-    tally.finish("damaged trails", DAMAGED, [1, 3, 4, 5, 6, 7, 8, 9]);
+    tally.finish("damaged trails", DAMAGED, [1, 3, 4, 5, 6, 7, 8, 9, 13]);
     tally.finish_ways("damaged trails", &READ_WAYS);
 }
 
@@ -100,15 +125,16 @@ fn trails_aimed_at_each_refusal() {
     let mut rng = Rng::new(104);
     let mut tally = Tally::new();
     while tally.inputs() < AIMED {
-        for number in 1..=9 {
+        for number in READ_REFUSALS {
             let (trail, state) = targeted(&mut rng, number);
             same_reading(&mut tally, &trail, state);
         }
         let trail = many_faults(&mut rng);
         same_reading(&mut tally, &trail, State::default());
     }
-    tally.finish("aimed trails", AIMED, 1..=9);
+    tally.finish("aimed trails", AIMED, READ_REFUSALS);
     tally.finish_texts("aimed trails", &SPOILT_ITEMS);
+    tally.finish_faults("aimed trails", &ADDRESS_FAULTS);
 }
 
 #[test]

@@ -6,15 +6,29 @@ use generator::*;
 use reference::{Answer, Header, Item, Refusal, State};
 use std::collections::BTreeMap;
 
-/// A header with distinct fields.
-fn header(number: u8, version: u16) -> Header {
-    Header {
-        number,
-        version,
-        event: 0x1234,
-        modifier: 0x5678,
-        seconds: 0x9ABC_DEF0,
-        nanoseconds: 0x0BCD_EF01,
+/// A header with distinct fields, and the first of the addresses that it can
+/// be given.
+fn header(number: u8, version: u16) -> HeaderArgs {
+    HeaderArgs {
+        fields: Header {
+            number,
+            version,
+            event: 0x1234,
+            modifier: 0x5678,
+            address: &[],
+            seconds: 0x9ABC_DEF0,
+            nanoseconds: 0x0BCD_EF01,
+        },
+        address: addresses(number)[0].to_vec(),
+    }
+}
+
+/// Addresses for the header with this number: good ones of either length and
+/// two that are refused; none for one that has no address.
+fn addresses(number: u8) -> &'static [&'static [u8]] {
+    match number {
+        0x15 | 0x79 => &[&[192, 0, 2, 7], &[0x20; 16], &[], &[9; 5]],
+        _ => &[&[]],
     }
 }
 
@@ -33,12 +47,12 @@ fn refused(number: u8, place: usize) -> Refusal {
 fn every_version() {
     let mut rng = Rng::new(601);
     let mut tally = Tally::new();
-    for number in [0x14, 0x74] {
+    for number in HEADER_NUMBERS {
         for version in 0..=u16::MAX {
             let body = Vec::new();
             let header = header(number, version);
+            let size = header.size() + 7;
             let args = WriteArgs::Record { header, body };
-            let size = header_size(number) + 7;
             let answer = same_write(&mut tally, &mut rng, &args, size);
             let expected = match version {
                 ..=255 => Ok(size),
@@ -47,20 +61,21 @@ fn every_version() {
             assert_eq!(answer, expected, "{number:02X}, version {version}");
         }
     }
-    assert_eq!((tally.inputs(), tally.answers().0), (2 * 65_536, 2 * 256));
+    assert_eq!((tally.inputs(), tally.answers().0), (4 * 65_536, 4 * 256));
 }
 
 /// What a record is to be written from, right or wrong in each of the things
 /// that can be refused.
 struct Given {
-    header: Header,
+    header: HeaderArgs,
     body: Vec<u8>,
     /// How the body is refused.
     bad: Option<Refusal>,
     room: usize,
 }
 
-/// The refusals of what is given, in their order: 4, 11, 9, the body's, 10.
+/// The refusals of what is given, in their order: 13, 4, 11, 9, the body's,
+/// 10.
 fn refusals(given: &Given) -> impl Iterator<Item = Refusal> {
     let Header {
         number,
@@ -68,10 +83,13 @@ fn refusals(given: &Given) -> impl Iterator<Item = Refusal> {
         seconds,
         nanoseconds,
         ..
-    } = given.header;
-    let size = header_size(number) + given.body.len() + 7;
-    let narrow = number == 0x14 && seconds.max(nanoseconds) > u32::MAX.into();
+    } = given.header.fields;
+    let length = given.header.address.len();
+    let bad_address = matches!(number, 0x15 | 0x79) && length != 4 && length != 16;
+    let size = given.header.size() + given.body.len() + 7;
+    let narrow = matches!(number, 0x14 | 0x15) && seconds.max(nanoseconds) > u32::MAX.into();
     let all = [
+        bad_address.then_some(refused(13, 0)),
         (size > 65_535).then_some(refused(4, 0)),
         (version > 255 || narrow).then_some(refused(11, 0)),
         (nanoseconds > 999_999_999).then_some(refused(9, 0)),
@@ -91,14 +109,15 @@ fn filled(size: usize) -> Vec<u8> {
     token
 }
 
-/// Bodies that are good or refused with 6, 7 or 8, each small and too large
-/// for a record.
+/// Bodies that are good or refused with 6, 7, 8 or 13, each small and too
+/// large for a record.
 fn bodies() -> Vec<(Vec<u8>, Option<Refusal>)> {
     let ends = [
         (&b"\x2C\0\0"[..], 0, 0),
         (b"\0", 6, 0),
         (b"\x2C\0", 7, 0),
         (b"\x28\0\x01t", 8, 3),
+        (b"\x7E\0\0\0\x06", 13, 0),
     ];
     let mut all = Vec::new();
     for (end, number, at) in ends {
@@ -110,27 +129,37 @@ fn bodies() -> Vec<(Vec<u8>, Option<Refusal>)> {
     all
 }
 
-/// All that is given, with each choice of what is wrong.
-fn all_given(number: u8) -> Vec<Given> {
+/// Headers with each choice of what is wrong with them.
+fn all_headers(number: u8) -> Vec<HeaderArgs> {
     let mut all = Vec::new();
     for version in [0, 255, 256, u16::MAX] {
         for seconds in [u32::MAX.into(), 1 << 32] {
             for nanoseconds in [999_999_999, 1_000_000_000, 1 << 32] {
-                for (body, bad) in bodies() {
-                    let header = Header {
-                        seconds,
-                        nanoseconds,
-                        ..header(number, version)
-                    };
-                    let size = header_size(number) + body.len() + 7;
-                    all.extend([0, size - 1, size, size + 1].map(|room| Given {
-                        header,
-                        body: body.clone(),
-                        bad,
-                        room,
-                    }));
+                for address in addresses(number) {
+                    let mut header = header(number, version);
+                    header.fields.seconds = seconds;
+                    header.fields.nanoseconds = nanoseconds;
+                    header.address = address.to_vec();
+                    all.push(header);
                 }
             }
+        }
+    }
+    all
+}
+
+/// All that is given, with each choice of what is wrong.
+fn all_given(number: u8) -> Vec<Given> {
+    let mut all = Vec::new();
+    for header in all_headers(number) {
+        for (body, bad) in bodies() {
+            let size = header.size() + body.len() + 7;
+            all.extend([0, size - 1, size, size + 1].map(|room| Given {
+                header: header.clone(),
+                body: body.clone(),
+                bad,
+                room,
+            }));
         }
     }
     all
@@ -141,19 +170,19 @@ fn all_given(number: u8) -> Vec<Given> {
 fn whole_order_of_a_record() {
     let mut rng = Rng::new(602);
     let mut tally = Tally::new();
-    for given in all_given(0x14).into_iter().chain(all_given(0x74)) {
+    for given in HEADER_NUMBERS.into_iter().flat_map(all_given) {
         let first = refusals(&given).next();
         let Given {
             header, body, room, ..
         } = given;
         let args = WriteArgs::Record { header, body };
         let answer = same_write(&mut tally, &mut rng, &args, room);
-        assert_eq!(answer.err(), first, "{header:?} into {room}");
+        assert_eq!(answer.err(), first, "{args:?} into {room}");
     }
     let (none, refused) = tally.answers();
     println!("not refused {none}, refusals {refused:?}");
-    assert_eq!(tally.inputs(), 2 * 4 * 2 * 3 * 8 * 4);
-    for number in [4, 6, 7, 8, 9, 10, 11] {
+    assert_eq!(tally.inputs(), (1 + 1 + 4 + 4) * 4 * 2 * 3 * 10 * 4);
+    for number in [4, 6, 7, 8, 9, 10, 11, 13] {
         assert!(refused[number - 1] > 0, "{number}");
     }
     assert!(none > 0);
@@ -162,7 +191,7 @@ fn whole_order_of_a_record() {
 /// The answer at the start of a record of the manual page, 0 where it is
 /// accepted. Its count and its trailer stand where they stood, so that only 9
 /// and the body's refusals are left.
-fn told(tally: &mut Tally, header: &Header, body: &[u8]) -> u8 {
+fn told(tally: &mut Tally, header: &Header<'_>, body: &[u8]) -> u8 {
     let record = page_record(header, body);
     let (moved, rest) = page_found(header, body);
     // The last byte of the seconds alone decides on 9.
@@ -178,7 +207,7 @@ fn told(tally: &mut Tally, header: &Header, body: &[u8]) -> u8 {
             let inside = header_size(header.number)..record.len() - 7;
             match refusal.number {
                 9 => assert!(late && refusal.place == 0),
-                6..=8 => assert!(!late && inside.contains(&refusal.place)),
+                6..=8 | 13 => assert!(!late && inside.contains(&refusal.place)),
                 other => panic!("{other} for {}", show(&record)),
             }
             refusal.number
@@ -189,7 +218,7 @@ fn told(tally: &mut Tally, header: &Header, body: &[u8]) -> u8 {
 
 /// How often each answer comes for records of the manual page with these
 /// headers and bodies, by the header.
-fn answers(records: impl Iterator<Item = (Header, Vec<u8>)>) -> BTreeMap<(u8, u8), usize> {
+fn answers<'a>(records: impl Iterator<Item = (Header<'a>, Vec<u8>)>) -> BTreeMap<(u8, u8), usize> {
     let mut tally = Tally::new();
     let mut times = BTreeMap::new();
     for (header, body) in records {
