@@ -4,5 +4,6 @@ pub mod ItemNumbers
 pub mod Places
 pub mod States
 pub mod StepsBack
+pub mod Indexed
 pub mod Listings
 pub mod Tells

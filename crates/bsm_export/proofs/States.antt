@@ -48,3 +48,6 @@ module _ (x : Run) {o : Outcome} (e : runMeant x ≡ o) {q : BsmOutcome} where
   run-refused f g h =
       let st = stateMeant (x .state) in
       h ∙ by-numbers (stoppedBy st) (outcomeWith st) (λ p n. refl) (λ e p n. refl) f ∙ ap (λ y. stoppedBy st (endingMeant y)) (sym g) ∙ ap flatOutcome e
+
+pub run-flat : (x : Run) {o : Outcome} → runMeant x ≡ o → {q : BsmOutcome} → q ≡ flatOutcome (runMeant x) → q ≡ flatOutcome o
+run-flat x e h = h ∙ ap flatOutcome e

@@ -3,10 +3,10 @@ use mathlib.Core.Path.{_≡_, refl, sym, ap, _∙_}
 use mathlib.Core.Bool.{Bool, true, false}
 use mathlib.Core.Logic.{_≢_, inl, inr, ⊎-elim}
 use mathlib.Core.List.{List, [], _∷_}
-use Prim.Native.Nat.{ℕ, suc, _+_, _≤_, _<_}
+use Prim.Native.Nat.{ℕ, zero, suc, _+_, _-_, _*_, _≤_, _<_}
 use native.Mathlib.Omega.{arith}
-use lib.Dec.{leb, ltb}
-use lib.ListN.{length, drop}
+use lib.Dec.{leb, ltb, eqb}
+use lib.ListN.{length, getD, drop}
 use Rattle.bsm_field.specs.Number.{ifElse, field, fields, sum}
 use Rattle.bsm_token.specs.Layout.{rowOf, behind}
 use Rattle.bsm_token.specs.Token.{Token, Extent, tokenOf, extentOf, TokenAnswer, token, end as tokenEnd, refusal as tokenRefusal, tokenAt, Walk, tokens, refused as bad, walk}
@@ -18,12 +18,15 @@ use Rattle.bsm_token.proofs.Answers.{widths-few, behind-few}
 use Rattle.bsm_token.proofs.Reader.{token-at, token-numbers}
 use Rattle.bsm_item.specs.Item.{Item, fileItem, recordItem, Answer, item, end, short, refusal, itemAt}
 use Rattle.bsm_item.specs.Meaning.{partFor, addressFor, located}
-use Rattle.bsm_item.specs.Reading.{State, Reading, answerAt, with, plain, stopOf}
+use Rattle.bsm_item.specs.Reading.{State, Placed, Reading, answerAt, with, plain, stopOf}
 use Rattle.bsm_item.proofs.Longer.{refusal-numbers}
 use Rattle.bsm_item.proofs.Runs.{Stops, Reads, stops, goes, plain-reads}
 use Rattle.bsm_back.specs.Back.{Back, found, boundary, refused, recordBefore}
 use Rattle.bsm_back.specs.Meaning.{locatedBack}
 use Rattle.bsm_back.proofs.Depends.{only-beyond}
+use Rattle.bsm_index.specs.Fill.{recordsOf, tooSmall, fillBy, fillOf}
+use Rattle.bsm_index.specs.Find.{found as foundRecord, missing, nth, recordIn, from, recordFrom, filled, nearest, byEntry, byFilled, findRecord}
+use Rattle.bsm_index.specs.Meaning.{foundAt}
 use Rattle.bsm_bytes.specs.Write.{Draft, code, Reply, wrote, denied, answerIn, Written}
 use Rattle.bsm_draft.specs.Given.{tokenDraft}
 use Rattle.bsm_draft.specs.Items.{fileDraft, recordDraft}
@@ -34,6 +37,7 @@ use Rattle.bsm_listing.specs.Line.{itemLine}
 use Rattle.bsm_listing.specs.Listing.{Cursor, first, atState, done}
 use Rattle.bsm_export.specs.Items.{flatFound, flatAnswer, flatItem, stateAt, stoppedBy, flatOutcome}
 use Rattle.bsm_export.specs.Back.{steppedBack, flatBack}
+use Rattle.bsm_export.specs.Index.{flatFill, foundNumbers}
 use Rattle.bsm_export.specs.Written.{flatWritten, flatWalk}
 use Rattle.bsm_export.specs.Lines.{lineAnswer, ItemLined, cursorFrom, flatListing}
 use Rattle.bsm_export.specs.Told.{Tells, NumbersTell}
@@ -137,6 +141,54 @@ runs-tell s st = let w = stop-answer (plain-reads s st) in go ((plain s st) .ans
     go (short q n) e h z = absurd (omega arith)
     go (refusal k q n) e h z = absurd (state-number s last k q n e z)
 
+-- ---- an index
+
+fills-tell : (s : List ℕ) (st : State) (t : List ℕ) → (flatFill (fillOf s st t)) .run .number ≡ 0 → (fillOf s st t) .outcome .answer ≡ end
+unfolding fillOf fillBy flatFill flatOutcome stoppedBy
+fills-tell s st t = go (tooSmall (plain s st) t)
+  where
+    go : (b : Bool) → (flatFill (fillBy b (plain s st) st t)) .run .number ≡ 0 → (fillBy b (plain s st) st t) .outcome .answer ≡ end
+    go true z = absurd (omega arith)
+    go false z = runs-tell s st z
+
+-- counted from a place on
+from-tells : (s : List ℕ) (p n : ℕ) → (foundNumbers (foundAt (recordFrom s p n))) .item .number ≡ 0 → (foundNumbers (foundAt (recordFrom s p n))) .item .kind ≢ 3
+unfolding recordFrom recordIn nth foundAt flatAnswer flatFound
+from-tells s p n = let w = stop-answer (plain-reads s (from p)) in go (recordsOf ((plain s (from p)) .items)) n ((plain s (from p)) .answer) (w .0)
+  where
+    last : State
+    last = (plain s (from p)) .state
+
+    record-tells : (i : Placed) → (foundNumbers (foundAt (foundRecord i))) .item .kind ≢ 3
+    record-tells i = of (i .what)
+      where
+        of : (j : Item) → (flatItem (located (i .place) (item j))) .kind ≢ 3
+        of (fileItem m vs name) k = omega arith
+        of (recordItem m h b c) k = omega arith
+
+    stop-tells : (a : Answer) → answerAt s last ≡ a → (foundNumbers (foundAt (missing a))) .item .number ≡ 0 → (foundNumbers (foundAt (missing a))) .item .kind ≢ 3
+    stop-tells (item (fileItem m vs name)) e z k = omega arith
+    stop-tells (item (recordItem m h b c)) e z k = omega arith
+    stop-tells end e z k = omega arith
+    stop-tells (short q m) e z k = omega arith
+    stop-tells (refusal j q m) e z k = state-number s last j q m e z
+
+    go : (is : List Placed) (m : ℕ) (a : Answer) → answerAt s last ≡ a → (foundNumbers (foundAt (nth is m a))) .item .number ≡ 0 → (foundNumbers (foundAt (nth is m a))) .item .kind ≢ 3
+    go [] m a e z = stop-tells a e z
+    go (i ∷ is) zero a e z = record-tells i
+    go (i ∷ is) (suc m) a e z = go is m a e z
+
+finds-tell : (s t : List ℕ) (c n : ℕ) → (foundNumbers (foundAt (findRecord s t c n))) .item .number ≡ 0 → (foundNumbers (foundAt (findRecord s t c n))) .item .kind ≢ 3
+unfolding findRecord byFilled byEntry
+finds-tell s t c n = go (eqb (filled t c) 0)
+  where
+    k : ℕ
+    k = nearest (filled t c) n
+
+    go : (b : Bool) → (foundNumbers (foundAt (ifElse b (recordFrom s 0 n) (byEntry s t k n)))) .item .number ≡ 0 → (foundNumbers (foundAt (ifElse b (recordFrom s 0 n) (byEntry s t k n)))) .item .kind ≢ 3
+    go true z = from-tells s 0 n z
+    go false z = from-tells s (getD t k 0) (n - 64 * k) z
+
 -- ---- writing
 
 -- an outcome that is never a refusal with the number 0
@@ -197,6 +249,8 @@ numbers-tell =
       bodies = bodies-tell;
       runs = runs-tell;
       stepsBack = backs-tell;
+      fills = fills-tell;
+      finds = finds-tell;
       ofTokens = λ number values g. tells (tokenDraft number values g) (λ d d′ f w. among-above (13 ∷ 11 ∷ 8 ∷ 10 ∷ []) (f .number) (omega arith, (omega arith, (omega arith, (omega arith, tt)))) (token-refusals number values g d d′ f w .number));
       ofFiles = λ values name. tells (fileDraft values name) (λ d d′ f w. among-above (9 ∷ 8 ∷ 10 ∷ []) (f .number) (omega arith, (omega arith, (omega arith, tt))) (file-refusals values name d d′ f w .number));
       ofRecords = λ h body.

@@ -1,5 +1,6 @@
 pub mod Items
 pub mod Back
+pub mod Index
 pub mod Written
 pub mod Lines
 pub mod Told

@@ -12,12 +12,16 @@ use Rattle.bsm_item.specs.Meaning.{located}
 use Rattle.bsm_item.specs.Reading.{State, plain, stopOf}
 use Rattle.bsm_back.specs.Back.{recordBefore}
 use Rattle.bsm_back.specs.Meaning.{locatedBack}
+use Rattle.bsm_index.specs.Fill.{fillOf}
+use Rattle.bsm_index.specs.Find.{findRecord}
+use Rattle.bsm_index.specs.Meaning.{foundAt}
 use Rattle.bsm_bytes.specs.Write.{Draft, code, wrote, answerIn}
 use Rattle.bsm_draft.specs.Given.{Given, tokenDraft}
 use Rattle.bsm_draft.specs.Items.{fileDraft, recordDraft}
 use Rattle.bsm_listing.specs.Listing.{Cursor}
 use Rattle.bsm_export.specs.Items.{flatItem, stateAt, flatOutcome}
 use Rattle.bsm_export.specs.Back.{flatBack}
+use Rattle.bsm_export.specs.Index.{flatFill, foundNumbers}
 use Rattle.bsm_export.specs.Written.{flatWalk, Exported}
 use Rattle.bsm_export.specs.Lines.{lineAnswer, ItemLined, cursorFrom, flatListing}
 use Rattle.bsm_export.specs.declared.answer.BsmWritten.{BsmWritten}
@@ -33,6 +37,8 @@ pub record NumbersTell : Type 0 where
   pub bodies : (s : List ℕ) → (flatWalk (walk s)) .number ≡ 0 → walk s ≡ tokens ((flatWalk (walk s)) .written)
   pub runs : (s : List ℕ) (st : State) → (flatOutcome (stopOf (plain s st))) .number ≡ 0 → (plain s st) .answer ≡ end
   pub stepsBack : (s : List ℕ) (p : ℕ) → (flatBack p (locatedBack (recordBefore s p))) .item .number ≡ 0 → (flatBack p (locatedBack (recordBefore s p))) .item .kind ≢ 3
+  pub fills : (s : List ℕ) (st : State) (t : List ℕ) → (flatFill (fillOf s st t)) .run .number ≡ 0 → (fillOf s st t) .outcome .answer ≡ end
+  pub finds : (s t : List ℕ) (c n : ℕ) → (foundNumbers (foundAt (findRecord s t c n))) .item .number ≡ 0 → (foundNumbers (foundAt (findRecord s t c n))) .item .kind ≢ 3
   pub ofTokens : (number : ℕ) (values : List ℕ) (g : Given) → Tells (tokenDraft number values g)
   pub ofFiles : (values name : List ℕ) → Tells (fileDraft values name)
   pub ofRecords : (h : Head) (body : List ℕ) → Tells (recordDraft h body)

@@ -2,6 +2,7 @@
 pub mod answer;
 pub mod back;
 pub mod expanded;
+pub mod index;
 pub mod item;
 pub mod lines;
 pub mod party;

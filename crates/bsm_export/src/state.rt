@@ -1,13 +1,14 @@
 // One step from a reading state, and the run from it.
 ghost use mathlib.Core.Path.{_≡_};
 ghost use Rattle.bsm_item.specs.Reading.{plain, stopOf};
-ghost use Rattle.bsm_item.specs.Meaning.{stateMeant, stepAt};
+ghost use Rattle.bsm_item.specs.Meaning.{stateMeant, stepAt, runMeant};
 ghost use Rattle.bsm_export.specs.Items.{stateAt, stepWith, outcomeWith, flatStep, flatOutcome};
 use crate::answer::no_refusal;
 use crate::item::BsmItem;
 use crate::item::item_numbers;
 use bsm_item::item::ItemRead;
 use bsm_item::state::Ending;
+use bsm_item::state::Run;
 use bsm_item::state::State;
 use bsm_item::state::Step;
 use bsm_token::refusal::Refusal;
@@ -56,6 +57,18 @@ fn outcome(last: State, f: Refusal) -> BsmOutcome
     }
 }
 
+// A run as numbers.
+pub(crate) fn run_numbers(run: Run) -> BsmOutcome
+    ensures { λ r. ⌜ r ≡ flatOutcome (runMeant run) ⌝ }
+{
+    let last = run.state;
+    let ending = run.ending;
+    match ending {
+        Ending::End => outcome(last, no_refusal()),
+        Ending::Refused(f) => outcome(last, f),
+    }
+}
+
 // The answer at a state of a trail, and the state after it.
 #[no_mangle]
 pub extern "C" fn bsm_next(trail: &[u8], place: usize, records: usize, files: usize) -> BsmStep
@@ -83,11 +96,5 @@ pub extern "C" fn bsm_run(trail: &[u8], place: usize, records: usize, files: usi
         records: records,
         files: files,
     };
-    let run = state.run(trail);
-    let last = run.state;
-    let ending = run.ending;
-    match ending {
-        Ending::End => outcome(last, no_refusal()),
-        Ending::Refused(f) => outcome(last, f),
-    }
+    run_numbers(state.run(trail))
 }

@@ -1,5 +1,5 @@
 -- `state::bsm_run` meets its contract. Assumes nothing.
-use Rattle.bsm_export.proofs.States.{run-end, run-refused}
+use Rattle.bsm_export.proofs.States.{run-flat}
 use borrow.Author.Needs.{needs}
 use Rattle.bsm_export.proofs.state.bsm_run.Statement.{statement}
 use Rattle.bsm_export.proofs.state.bsm_run.Tie as tie
@@ -9,10 +9,5 @@ bsm-run-spec =
     tie.close
     (tie.spec
     (λ c κs. search needs)
-    (λ c. search needs)
     (λ c κs. search needs)
-    (λ c κs. search needs)
-    (λ c. search needs)
-    (λ c κs. search needs)
-    (λ c. search (run-end, needs))
-    (λ c. search (run-refused, needs)))
+    (λ c. search (run-flat, needs)))
