@@ -1,11 +1,11 @@
 /*
  * Reading, writing and listing BSM audit trails: the C face of the proved library.
  *
- * Every function answers for any input: any bytes, any place, any state, any destination. A pointer must be aligned for its type
- * and point to as many readable (dst, out: writable) elements as the length behind it says; dst and out must not overlap another
- * buffer of the same call. Where that length is 0, nothing is read or written through the pointer, and it may be null. Nothing is
- * kept between calls. A refusal has the numbers of the build specification (paper 01), named below. Where a `number` field is 0,
- * nothing was refused. What is refused is not written, not even in part.
+ * Every function answers for any input: any bytes, any place, any state, any destination, any table. A pointer must be aligned for
+ * its type and point to as many readable (dst, out, and a table to be filled: writable) elements as the length behind it says; what
+ * is writable must not overlap another buffer of the same call. Where that length is 0, nothing is read or written through the
+ * pointer, and it may be null. Nothing is kept between calls. A refusal has the numbers of the build specification (paper 01),
+ * named below. Where a `number` field is 0, nothing was refused. What is refused is not written, not even in part.
  */
 #ifndef BSM_H
 #define BSM_H
@@ -17,12 +17,12 @@
 extern "C" {
 #endif
 
-/* Refusals. The place that comes with one is the item's start for 1, 3, 4, 5 and 9, the token's for 6 and 7, the asked place for 2.
-   For 13 it is the start of what has the address: the item's for a header, the token's for a token. For 8 it is the byte that spoils
-   the text: the first zero byte that is not the last of the bytes that the length counts, or else the last of them, which is not
-   zero; where the length is 0, or a file name's over 1024, the first byte of the length. Places count from the start of the trail or
-   body given. A writer gives place 0, but for a text or name with a zero byte (8, with its place in what was given, unless a name is
-   too long) and for a record's body, which it refuses as bsm_walk_body does. */
+/* Refusals. The place that comes with one is the item's start for 1, 3, 4, 5 and 9, the token's for 6 and 7, the asked place for 2,
+   or the one that a table's entry has. For 13 it is the start of what has the address: the item's for a header, the token's for a
+   token. For 8 it is the byte that spoils the text: the first zero byte that is not the last of the bytes that the length counts,
+   or else the last of them, which is not zero; where the length is 0, or a file name's over 1024, the first byte of the length.
+   Places count from the start of the trail or body given. A writer gives place 0, but for a text or name with a zero byte (8, with
+   its place in what was given, unless a name is too long) and for a record's body, which it refuses as bsm_walk_body does. */
 enum {
     BSM_REFUSAL_SHORT = 1,            /* `need` bytes must stand from the item's start on */
     BSM_REFUSAL_PLACE = 2,            /* place beyond the buffer, or totals above the place */
@@ -33,7 +33,7 @@ enum {
     BSM_REFUSAL_PAST_END = 7,         /* a token runs past its body's end */
     BSM_REFUSAL_BAD_TEXT = 8,         /* a bad text, or too long a file name: the byte that spoils it */
     BSM_REFUSAL_TIME_RANGE = 9,       /* microseconds or nanoseconds out of range */
-    BSM_REFUSAL_NO_ROOM = 10,         /* the destination is too small */
+    BSM_REFUSAL_NO_ROOM = 10,         /* the destination, or the table to be filled, is too small */
     BSM_REFUSAL_TOO_LARGE = 11,       /* a value is too large for its field; a record's version is one byte */
     BSM_REFUSAL_ADDRESS_TYPE = 13     /* an address's type is neither 4 nor 16; a writer: an address of another length */
 };
@@ -152,6 +152,40 @@ typedef struct {
 } bsm_before;
 
 bsm_before bsm_record_before(const uint8_t *trail, size_t length, size_t place);
+
+/* ---- an index of places: entry k of a table is the place of record 64 k, and records are numbered from 0 */
+
+enum { BSM_RECORDS_PER_ENTRY = 64 };
+
+/* What a fill came to. */
+typedef struct {
+    bsm_outcome run;    /* as bsm_run answers, or number 10 with the state as it was given */
+    uint64_t count;     /* entries that the run's total of records takes: the total over 64, rounded up */
+} bsm_filled;
+
+/* Runs from a state, and enters the places of those records it reads whose number is a multiple of 64. A record's number is the
+   total of records before it, which the state has. All other entries stay as they are: those of records before the state must be
+   there already. Where the run is refused with 2, or else the table has fewer entries than `count` (10, place 0, need 0), nothing
+   is entered and the state is the one given. With 10, `count` is how many entries a table must have.
+   When the trail has grown, fill again from the state of the last answer, whatever it was: that answers what a fill of the whole
+   trail from a fresh state does, the count too, and unless it is 10, state and entries are the same. Keep between two fills the
+   table, the state, and the count of the last fill that was not 10: so many entries are filled. A longer table may take the table's
+   place once these are copied into it. */
+bsm_filled bsm_fill_index(const uint8_t *trail, size_t length, size_t place, size_t records, size_t files, uint64_t *table,
+    size_t entries);
+
+/* A record by its number. */
+typedef struct {
+    bsm_item item;      /* BSM_RECORD, as bsm_item_at answers at the record's place; or BSM_END or BSM_REFUSED */
+    uint64_t place;     /* the record's place; 0 where there is none */
+} bsm_found;
+
+/* Record n, counted on from the nearest filled entry at or before it, or from place 0 where none is filled. `count` is how many
+   entries are filled; one above `entries` means `entries`. Past the last record that is accepted, the answer is the end or the
+   refusal of the run; where the entry lies beyond the trail, it is 2 with the entry for its place.
+   If the table was filled as above, with that count, from bytes that the trail begins with, the answer is the one that counting
+   from place 0 gives. With other entries there is an answer too: what stands from the entry's place on. */
+bsm_found bsm_find_record(const uint8_t *trail, size_t length, const uint64_t *table, size_t entries, size_t count, size_t n);
 
 /* ---- reading body tokens; places are counted from the body's start */
 
