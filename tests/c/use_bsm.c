@@ -1,6 +1,7 @@
-/* Uses the library from C: writes every kind of token, a file token and records, reads them from both ends, lists them, and tries
-   texts and types that are spoilt, versions and addresses of all sizes, destinations that are too small and buffers that are not
-   there. What it expects is computed from what it wrote. Exit status 0 where every assertion holds. */
+/* Uses the library from C: writes every kind of token, a file token and records, reads them from both ends, finds them by their
+   numbers, lists them, and tries texts and types that are spoilt, versions and addresses of all sizes, destinations and tables that
+   are too small and buffers that are not there. What it expects is computed from what it wrote. Exit status 0 where every assertion
+   holds. */
 #undef NDEBUG
 #include <assert.h>
 #include <stddef.h>
@@ -27,6 +28,8 @@ _Static_assert(offsetof(bsm_item, address_start) == offsetof(bsm_item, length) +
 _Static_assert(offsetof(bsm_item, address_length) == offsetof(bsm_item, address_start) + 8, "start and length");
 _Static_assert(offsetof(bsm_item, number) == offsetof(bsm_item, address_length) + 8, "before the refusal");
 _Static_assert(offsetof(bsm_step, place) == sizeof(bsm_item) && offsetof(bsm_before, place) == sizeof(bsm_item), "behind the item");
+_Static_assert(offsetof(bsm_found, place) == sizeof(bsm_item), "behind the item");
+_Static_assert(offsetof(bsm_filled, count) == sizeof(bsm_outcome) && sizeof(bsm_filled) == 7 * sizeof(uint64_t), "behind the run");
 
 static uint8_t body[1024];
 static size_t body_size, tokens;
@@ -253,6 +256,246 @@ static void read_back(void)
     assert(record_at(bsm_record_before(t, n, middle), t, n, 0) && boundary(bsm_record_before(t, n, 0), 0, 7));
     for (size_t gone = 1; gone < middle - TRAILER; gone++)
         assert(boundary(bsm_record_before(t + gone, n - gone, middle - gone), middle - gone, middle));
+}
+
+/* A trail of many records of several sizes and headers, record r with event r, with file tokens before, between and behind them. */
+enum { MANY = 300, ENTRIES = (MANY + BSM_RECORDS_PER_ENTRY - 1) / BSM_RECORDS_PER_ENTRY };
+static uint8_t many[MANY * 64];
+static size_t many_size, places[MANY];
+
+static void write_file_token(void)
+{
+    bsm_written w = bsm_write_file(REST(many, many_size), 5, 7, TEXT("20240131"));
+    assert(accepted(w, 20));
+    many_size += w.written;
+}
+
+static bsm_written write_record(uint16_t r, const uint8_t *b, size_t n)
+{
+    if (r % 5 == 4)
+        return bsm_write_record32_ex(REST(many, many_size), 11, r, 0, 1, 2, ipv6, sizeof ipv6, b, n);
+    return (r % 3 ? bsm_write_record32 : bsm_write_record64)(REST(many, many_size), 11, r, 0, 1, 2, b, n);
+}
+
+/* Writes it; the place of each record is the one that a step finds. */
+static void write_many(void)
+{
+    for (uint16_t r = 0; r < MANY; r++) {
+        uint8_t b[32];
+        const size_t n = bsm_write_opaque(REST(b, 0), ipv6, r % 17).written;
+        if (r % 32 == 0 || r % 50 == 17)
+            write_file_token();
+        bsm_written w = write_record(r, b, n);
+        assert(w.number == 0);
+        many_size += w.written;
+    }
+    write_file_token();
+
+    bsm_step s = {.place = 0};
+    for (size_t at = 0; (s = bsm_next(many, many_size, at, s.records, s.files)).item.kind != BSM_END; at = s.place) {
+        assert(s.item.kind != BSM_REFUSED);
+        if (s.item.kind == BSM_RECORD) {
+            assert(s.item.event == s.records - 1);
+            places[s.records - 1] = at;
+        }
+    }
+    assert(s.place == many_size && s.records == MANY && s.files > MANY / BSM_RECORDS_PER_ENTRY);
+}
+
+static uint64_t entries_of(uint64_t n)
+{
+    return n / BSM_RECORDS_PER_ENTRY + (n % BSM_RECORDS_PER_ENTRY != 0);
+}
+
+static bsm_filled fill(size_t length, bsm_outcome from, uint64_t *table, size_t entries)
+{
+    return bsm_fill_index(many, length, from.place, from.records, from.files, table, entries);
+}
+
+/* f is the run over so many bytes, and the table has its entries and no other. */
+static void filled(bsm_filled f, size_t length, const uint64_t *table, size_t entries)
+{
+    bsm_outcome run = bsm_run(many, length, 0, 0, 0);
+    assert(memcmp(&f.run, &run, sizeof run) == 0 && f.count == entries_of(run.records) && f.count <= entries);
+    for (size_t k = 0; k < entries; k++)
+        assert(table[k] == (k < f.count ? places[k * BSM_RECORDS_PER_ENTRY] : UINT64_MAX));
+}
+
+/* Number 10 or 2: table and state are as they were. */
+static void unfilled(bsm_filled f, bsm_outcome from, uint64_t number, uint64_t at, const uint64_t *table, size_t entries)
+{
+    assert(f.run.place == from.place && f.run.records == from.records && f.run.files == from.files);
+    assert(f.run.number == number && f.run.at == at && f.run.need == 0);
+    for (size_t k = 0; k < entries; k++)
+        assert(table[k] == UINT64_MAX);
+}
+
+/* Tables of each length, from a fresh state and from one between: too small a one is told how many entries it must have. */
+static void fill_tables(void)
+{
+    const bsm_outcome fresh = {.place = 0}, between = bsm_run(many, places[100], 0, 0, 0);
+    assert(between.number == 0 && between.records == 100);
+    uint64_t table[ENTRIES + 3];
+    for (size_t entries = 0; entries <= ENTRIES + 3; entries++) {
+        memset(table, 0xFF, sizeof table);
+        bsm_filled f = fill(many_size, between, table, entries);
+        assert(f.count == ENTRIES);
+        if (entries >= ENTRIES) {
+            /* Only the records that it reads itself are entered. */
+            assert(f.run.number == 0 && f.run.place == many_size && f.run.records == MANY);
+            for (size_t k = 0; k < entries; k++)
+                assert(table[k] == (k < 2 || k >= ENTRIES ? UINT64_MAX : places[k * BSM_RECORDS_PER_ENTRY]));
+            memset(table, 0xFF, sizeof table);
+            filled(fill(many_size, fresh, table, entries), many_size, table, entries);
+            continue;
+        }
+        unfilled(f, between, BSM_REFUSAL_NO_ROOM, 0, table, ENTRIES + 3);
+        f = fill(many_size, fresh, table, entries);
+        assert(f.count == ENTRIES);
+        unfilled(f, fresh, BSM_REFUSAL_NO_ROOM, 0, table, ENTRIES + 3);
+    }
+}
+
+/* A place beyond, and totals above the place: 2 comes before 10. */
+static void fill_from_nowhere(void)
+{
+    const bsm_outcome beyond = {.place = many_size + 1, .records = 129}, high = {.place = 65, .records = 65, .files = 1};
+    uint64_t table[3];
+    memset(table, 0xFF, sizeof table);
+    for (size_t entries = 0; entries <= 3; entries++) {
+        bsm_filled f = fill(many_size, beyond, table, entries), g = fill(many_size, high, table, entries);
+        assert(f.count == 3 && g.count == 2);
+        unfilled(f, beyond, BSM_REFUSAL_PLACE, many_size + 1, table, 3);
+        unfilled(g, high, BSM_REFUSAL_PLACE, 65, table, 3);
+    }
+}
+
+/* The trail comes in pieces of this size; a table that is too small is exchanged for one of the count that it was told. */
+static void fill_pieces(size_t piece)
+{
+    uint64_t tables[2][ENTRIES];
+    memset(tables, 0xFF, sizeof tables);
+    uint64_t *table = tables[0], *other = tables[1];
+    bsm_filled f = {.count = 0};
+    size_t entries = 0, moves = 0;
+    for (size_t length = 0;; length = many_size - length < piece ? many_size : length + piece) {
+        const size_t known = f.count;
+        f = fill(length, f.run, table, entries);
+        if (f.run.number == BSM_REFUSAL_NO_ROOM) {
+            assert(f.count > entries && f.count == entries_of(bsm_run(many, length, 0, 0, 0).records));
+            memset(other, 0xFF, sizeof tables[0]);
+            memcpy(other, table, known * sizeof *table);
+            uint64_t *old = table;
+            table = other;
+            other = old;
+            entries = f.count;
+            moves++;
+            f = fill(length, f.run, table, entries);
+        }
+        filled(f, length, table, entries);
+        if (length == many_size)
+            break;
+    }
+    assert(f.run.number == 0 && f.count == ENTRIES && moves > 0 && moves <= ENTRIES);
+}
+
+/* Two fills, with the first one's end at each place of the trail. */
+static void fill_at_each_cut(void)
+{
+    const bsm_outcome fresh = {.place = 0};
+    size_t shorts = 0;
+    for (size_t cut = 0; cut <= many_size; cut++) {
+        uint64_t table[ENTRIES + 1];
+        memset(table, 0xFF, sizeof table);
+        bsm_filled f = fill(cut, fresh, table, ENTRIES + 1);
+        filled(f, cut, table, ENTRIES + 1);
+        shorts += f.run.number == BSM_REFUSAL_SHORT;
+        filled(fill(many_size, f.run, table, ENTRIES + 1), many_size, table, ENTRIES + 1);
+    }
+    assert(shorts > many_size / 2);
+}
+
+/* f is record r, with all its fields. */
+static int is_record(bsm_found f, size_t length, size_t r)
+{
+    const bsm_item item = bsm_item_at(many, length, places[r]);
+    return item.kind == BSM_RECORD && item.event == r && f.place == places[r] && memcmp(&f.item, &item, sizeof item) == 0;
+}
+
+/* There is no record, for this reason. */
+static int is_none(bsm_found f, uint64_t number, uint64_t place, uint64_t need)
+{
+    const bsm_item none = {.kind = number ? BSM_REFUSED : BSM_END, .number = number, .place = place, .need = need};
+    return f.place == 0 && memcmp(&f.item, &none, sizeof none) == 0;
+}
+
+/* Every record of so many bytes, and some past the last, by a table that they filled and each count up to one beyond its length. */
+static void find_each(size_t length, uint64_t number, uint64_t place, uint64_t need)
+{
+    uint64_t table[ENTRIES];
+    const bsm_outcome fresh = {.place = 0};
+    bsm_filled f = fill(length, fresh, table, ENTRIES);
+    assert(f.run.number == number && f.run.at == place && f.run.need == need);
+    for (size_t count = 0; count <= f.count + 1; count++) {
+        const size_t entries = count > f.count ? f.count : ENTRIES, given = count > f.count ? SIZE_MAX : count;
+        for (size_t n = 0; n < f.run.records; n++)
+            assert(is_record(bsm_find_record(many, length, table, entries, given, n), length, n));
+        for (size_t past = 0; past < 2 * BSM_RECORDS_PER_ENTRY; past++)
+            assert(is_none(bsm_find_record(many, length, table, entries, given, f.run.records + past), number, place, need));
+        assert(is_none(bsm_find_record(many, length, table, entries, given, SIZE_MAX), number, place, need));
+    }
+}
+
+/* Whole, cut inside a record and inside a file token, and damaged. A table filled from a beginning of the trail serves as well. */
+static void find_records(void)
+{
+    find_each(many_size, 0, 0, 0);
+    find_each(places[200] + 8, BSM_REFUSAL_SHORT, places[200], bsm_item_at(many, many_size, places[200]).size);
+    find_each(many_size - 1, BSM_REFUSAL_SHORT, many_size - 20, 20);
+    find_each(0, 0, 0, 0);
+
+    uint64_t table[ENTRIES];
+    bsm_filled f = bsm_fill_index(many, places[70] + 1, 0, 0, 0, table, ENTRIES);
+    assert(f.count == 2 && f.run.records == 70);
+    for (size_t n = 0; n < MANY; n++)
+        assert(is_record(bsm_find_record(many, many_size, table, ENTRIES, f.count, n), many_size, n));
+
+    many[places[130]] = 0xFF;
+    find_each(many_size, BSM_REFUSAL_NOT_AN_ITEM, places[130], 0);
+    many[places[130]] = BSM_ID_HEADER32;
+    assert(bsm_run(many, many_size, 0, 0, 0).number == 0);
+}
+
+/* Entries that no fill has made: what stands from there on is the answer, and 2 beyond the trail. */
+static void find_by_wild_entries(void)
+{
+    for (size_t place = 0; place < many_size + 3; place++) {
+        const uint64_t table[] = {place, UINT64_MAX};
+        bsm_found f = bsm_find_record(many, many_size, table, 2, 1, 0);
+        bsm_step s = {.place = place};
+        while ((s = bsm_next(many, many_size, s.place, 0, 0)).item.kind == BSM_FILE)
+            ;
+        assert(memcmp(&f.item, &s.item, sizeof f.item) == 0);
+        assert(f.place == (s.item.kind == BSM_RECORD ? s.place - s.item.size : 0));
+    }
+    const uint64_t table[] = {places[10], many_size + 1, UINT64_MAX};
+    assert(is_record(bsm_find_record(many, many_size, table, 3, SIZE_MAX, 5), many_size, 15));
+    assert(is_record(bsm_find_record(many, many_size, table, 1, SIZE_MAX, 200), many_size, 210));
+    assert(is_none(bsm_find_record(many, many_size, table, 3, SIZE_MAX, 127), BSM_REFUSAL_PLACE, many_size + 1, 0));
+    assert(is_none(bsm_find_record(many, many_size, table, 3, 3, SIZE_MAX), BSM_REFUSAL_PLACE, UINT64_MAX, 0));
+    assert(is_record(bsm_find_record(many, many_size, table, 3, 0, MANY - 1), many_size, MANY - 1));
+}
+
+static void index_trail(void)
+{
+    write_many();
+    fill_tables();
+    fill_from_nowhere();
+    for (size_t piece = 1; piece < many_size; piece = 2 * piece + 1)
+        fill_pieces(piece);
+    fill_at_each_cut();
+    find_records();
+    find_by_wild_entries();
 }
 
 /* The listing as one text, line by line, and in parts of any room that holds the longest line. */
@@ -731,6 +974,25 @@ static void list_nothing(void)
     assert(memcmp(d, "bsmlist\t1\nE\t0\t0\n", 16) == 0);
 }
 
+/* No trail, no table, and neither. */
+static void index_nothing(void)
+{
+    const bsm_outcome fresh = {.place = 0};
+    uint64_t table[] = {UINT64_MAX};
+    bsm_filled f = bsm_fill_index(NOTHING, 0, 0, 0, NOTHING), g = bsm_fill_index(NOTHING, 0, 0, 0, table, 1);
+    assert(f.count == 0 && g.count == 0);
+    unfilled(f, fresh, 0, 0, NOTHING);
+    unfilled(g, fresh, 0, 0, table, 1);
+    bsm_filled small = bsm_fill_index(many, many_size, 0, 0, 0, NOTHING), high = bsm_fill_index(NOTHING, 0, 1, 0, NOTHING);
+    assert(small.count == ENTRIES && small.run.number == BSM_REFUSAL_NO_ROOM && small.run.place == 0 && small.run.at == 0);
+    assert(high.count == 1 && high.run.number == BSM_REFUSAL_PLACE && high.run.records == 1);
+
+    assert(is_none(bsm_find_record(NOTHING, NOTHING, 0, 0), 0, 0, 0));
+    assert(is_none(bsm_find_record(NOTHING, NOTHING, SIZE_MAX, SIZE_MAX), 0, 0, 0));
+    assert(is_none(bsm_find_record(NOTHING, table, 1, 1, 0), BSM_REFUSAL_PLACE, UINT64_MAX, 0));
+    assert(is_record(bsm_find_record(many, many_size, NOTHING, 7, MANY - 1), many_size, MANY - 1));
+}
+
 int main(void)
 {
     write_texts();
@@ -743,6 +1005,7 @@ int main(void)
     read_items();
     read_trail();
     read_back();
+    index_trail();
     list_trail();
     list_no_line();
     line_of_no_item();
@@ -772,6 +1035,7 @@ int main(void)
     write_into_nothing();
     write_nothing();
     list_nothing();
+    index_nothing();
     puts("bsm from C: ok");
     return 0;
 }
