@@ -73,6 +73,28 @@
 //! [`Newest`] walks from the trail's end back to its last file token, at the
 //! cost of the records it hands out, however long the trail is.
 //!
+//! # A record by its number
+//!
+//! [`Index`] keeps the places of records 0, 64, 128 and so on in a table that
+//! it is lent, also while the trail grows. Each record up to where it has read
+//! is then found by reading at most 64, however many stand before it.
+//!
+//! ```
+//! use bsm::{Index, Item};
+//!
+//! # let record = b"\x14\0\0\0\x19\x0b\0\x48\0\0\0\0\0\x01\0\0\0\x02\x13\xb1\x05\0\0\0\x19";
+//! # let trail = record.repeat(200);
+//! // `trail` has 200 records of 25 bytes.
+//! let mut index = Index::new([0; 4]);
+//! assert_eq!(index.read(&trail).run.refusal, None);
+//! assert_eq!(index.table(), [0, 1_600, 3_200, 4_800]);
+//!
+//! let found = index.find(&trail, 150)?;
+//! assert!(matches!(found, Some((3_750, Item::Record { .. }))));
+//! assert_eq!(index.find(&trail, 200)?, None);
+//! # Ok::<(), bsm::Refusal>(())
+//! ```
+//!
 //! # Writing
 //!
 //! ```
@@ -112,6 +134,7 @@ compile_error!("the archive of the proved library is for 64-bit machines");
 
 mod address;
 mod back;
+mod index;
 mod item;
 mod listing;
 mod parts;
@@ -126,6 +149,7 @@ mod unfit;
 mod write;
 
 pub use back::{record_before, Before, Newest};
+pub use index::{fill_index, find_record, Filled, Index, RECORDS_PER_ENTRY};
 pub use item::{address_at, body_at, item_at, name_at, Header, HeaderKind, Item};
 pub use listing::{first_line, item_line, last_line, list, Cursor, Listed, LINE_MAX};
 pub use parts::{Groups, Strings};

@@ -42,7 +42,7 @@ pub enum Reason {
     BadText = 8,
     /// 9: microseconds over 999,999 or nanoseconds over 999,999,999.
     TimeRange = 9,
-    /// 10: too little room in the destination.
+    /// 10: too little room in the destination, or in the table of an index.
     NoRoom = 10,
     /// 11: a value that its field cannot hold: a text, an opaque or groups too
     /// long, a record's version over 255, or times over 32 bits for a

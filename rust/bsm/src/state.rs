@@ -116,6 +116,12 @@ pub fn run(trail: &[u8], state: State) -> Run {
             state.files,
         )
     };
+    run_of(&told)
+}
+
+/// The run that the library told.
+#[inline]
+pub(crate) fn run_of(told: &sys::bsm_outcome) -> Run {
     Run {
         state: state_of(told.place, told.records, told.files),
         refusal: (told.number != 0).then(|| Refusal::of(told.number, told.at, told.need)),

@@ -77,6 +77,20 @@ pub struct bsm_before {
 
 #[repr(C)]
 #[derive(Clone, Copy, Debug, Default, PartialEq, Eq)]
+pub struct bsm_filled {
+    pub run: bsm_outcome,
+    pub count: u64,
+}
+
+#[repr(C)]
+#[derive(Clone, Copy, Debug, Default, PartialEq, Eq)]
+pub struct bsm_found {
+    pub item: bsm_item,
+    pub place: u64,
+}
+
+#[repr(C)]
+#[derive(Clone, Copy, Debug, Default, PartialEq, Eq)]
 pub struct bsm_token {
     pub kind: u64,
     pub token: u64,
@@ -130,6 +144,24 @@ extern "C" {
     ) -> bsm_outcome;
 
     pub fn bsm_record_before(trail: *const u8, length: usize, place: usize) -> bsm_before;
+
+    pub fn bsm_fill_index(
+        trail: *const u8,
+        length: usize,
+        place: usize,
+        records: usize,
+        files: usize,
+        table: *mut u64,
+        entries: usize,
+    ) -> bsm_filled;
+    pub fn bsm_find_record(
+        trail: *const u8,
+        length: usize,
+        table: *const u64,
+        entries: usize,
+        count: usize,
+        n: usize,
+    ) -> bsm_found;
 
     pub fn bsm_token_at(body: *const u8, length: usize, place: usize) -> bsm_token;
     pub fn bsm_text_at(body: *const u8, length: usize, place: usize) -> bsm_part;

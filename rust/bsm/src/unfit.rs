@@ -15,9 +15,11 @@ mod tests {
 
     use crate::address::address_of;
     use crate::back::{before, Before};
+    use crate::index::found_record;
     use crate::item::{found, part, record, told_address, told_part, Item};
     use crate::listing::{cursor_of, Cursor};
     use crate::refusal::{written, Reason, Refusal};
+    use crate::state::run_of;
     use crate::sys;
     use crate::token::Token;
     use crate::token_read::{told_token, told_token_address};
@@ -60,6 +62,11 @@ mod tests {
                     ..Default::default()
                 };
                 stops("refusal", number, || written(told));
+                let told = sys::bsm_outcome {
+                    number,
+                    ..Default::default()
+                };
+                stops("refusal", number, || run_of(&told));
             }
         }
     }
@@ -180,6 +187,34 @@ mod tests {
         for kind in [sys::BSM_END, sys::BSM_FILE, 5].into_iter().chain(NEVER) {
             stops("item kind", kind, || before(&[0; 60], &told(kind, 0)));
         }
+    }
+
+    #[test]
+    fn records_by_number() {
+        let told = |kind, number| sys::bsm_found {
+            item: sys::bsm_item {
+                kind,
+                header: 0x14,
+                number,
+                place: 9,
+                ..Default::default()
+            },
+            place: 3,
+        };
+        let record = found_record(&[], &told(sys::BSM_RECORD, 0));
+        assert!(matches!(record, Ok(Some((3, Item::Record { .. })))));
+        assert_eq!(found_record(&[], &told(sys::BSM_END, 0)), Ok(None));
+        let refused = found_record(&[], &told(sys::BSM_REFUSED, 2)).unwrap_err();
+        assert_eq!((refused.reason, refused.place), (Reason::Place, 9));
+        for kind in [sys::BSM_FILE, sys::BSM_BOUNDARY, 5]
+            .into_iter()
+            .chain(NEVER)
+        {
+            stops("item kind", kind, || found_record(&[0; 60], &told(kind, 3)));
+        }
+        stops("refusal", 0, || {
+            found_record(&[], &told(sys::BSM_REFUSED, 0))
+        });
     }
 
     #[test]
