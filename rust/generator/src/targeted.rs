@@ -19,27 +19,7 @@ pub const READ_REFUSALS: [u8; 10] = [1, 2, 3, 4, 5, 6, 7, 8, 9, 13];
 pub fn targeted(rng: &mut Rng, number: u8) -> (Vec<u8>, State) {
     let before = rng.below(3);
     let mut trail = good_trail(rng, before);
-    match number {
-        1 => trail.extend(cut_item(rng)),
-        3 => {
-            let first = loop {
-                let byte = rng.u8();
-                if byte != 0x11 && !HEADER_NUMBERS.contains(&byte) {
-                    break byte;
-                }
-            };
-            trail.push(first);
-        }
-        4 if rng.chance(3) => trail.extend(bad_header(rng, AddressFault::Count)),
-        4 => trail.extend(bad_count(rng)),
-        13 if rng.chance(3) => trail.extend(bad_header(rng, AddressFault::Type)),
-        5 => trail.extend(bad_trailer(rng)),
-        6 | 7 | 13 => trail.extend(bad_token(rng, number)),
-        8 if rng.chance(3) => trail.extend(bad_name(rng)),
-        8 => trail.extend(bad_token(rng, number)),
-        9 => trail.extend(bad_fraction(rng)),
-        _ => {}
-    }
+    trail.extend(refused_item(rng, number));
     match rng.below(3) {
         0 if number != 1 => trail.extend(good_record(rng)),
         1 if number != 1 => {
@@ -53,6 +33,29 @@ pub fn targeted(rng: &mut Rng, number: u8) -> (Vec<u8>, State) {
         _ => State::default(),
     };
     (trail, state)
+}
+
+/// An item that is likely refused with `number`, whatever stands before it;
+/// nothing for a number with which no item is.
+pub fn refused_item(rng: &mut Rng, number: u8) -> Vec<u8> {
+    match number {
+        1 => cut_item(rng),
+        3 => loop {
+            let byte = rng.u8();
+            if byte != 0x11 && !HEADER_NUMBERS.contains(&byte) {
+                return vec![byte];
+            }
+        },
+        4 if rng.chance(3) => bad_header(rng, AddressFault::Count),
+        4 => bad_count(rng),
+        13 if rng.chance(3) => bad_header(rng, AddressFault::Type),
+        5 => bad_trailer(rng),
+        6 | 7 | 13 => bad_token(rng, number),
+        8 if rng.chance(3) => bad_name(rng),
+        8 => bad_token(rng, number),
+        9 => bad_fraction(rng),
+        _ => Vec::new(),
+    }
 }
 
 /// A state that is refused with 2, whatever the trail of this length.
