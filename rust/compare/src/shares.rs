@@ -37,6 +37,18 @@ pub const STEPS_BACK: usize = 500_000;
 pub const AIMED_BACK: usize = 60_000;
 /// Walks from the end of good trails.
 pub const WALKS: usize = 20_000;
+/// Fills of an index with tables of every length.
+pub const FILLS: usize = 60_000;
+/// The same at each byte near a multiple of 64 records.
+pub const CUT_FILLS: usize = 60_000;
+/// The same behind which an item is refused.
+pub const REFUSED_FILLS: usize = 60_000;
+/// Fills from wild states.
+pub const WILD_FILLS: usize = 60_000;
+/// Records by their numbers.
+pub const BY_NUMBER: usize = 80_000;
+/// The same with wild tables and counts.
+pub const WILD_TABLES: usize = 60_000;
 /// Lines of a listing.
 pub const LINES: usize = 100_000;
 /// Parts of a listing.
@@ -65,6 +77,12 @@ pub const TOTAL: usize = MIXED
     + STEPS_BACK
     + AIMED_BACK
     + WALKS
+    + FILLS
+    + CUT_FILLS
+    + REFUSED_FILLS
+    + WILD_FILLS
+    + BY_NUMBER
+    + WILD_TABLES
     + LINES
     + PARTS
     + FACE

@@ -3,6 +3,8 @@
 use crate::back::{same_around, same_before, same_newest};
 use crate::expect::{self, REASONS};
 use crate::growing::Growing;
+use crate::growing_index::GrowingIndex;
+use crate::index::{same_fill, same_find, Indexed, INDEXED, UNFILLED};
 use crate::lines::{same_lines, same_parts};
 use crate::reading::{same_item, same_items, same_run, same_step};
 use crate::tally::{Tally, EXPANDED_HEADERS};
@@ -34,6 +36,7 @@ pub fn compare_seed(tally: &mut Tally, seed: u64) {
         same_before(tally, &trail, place);
         same_around(tally, &mut rng, &trail, place);
     }
+    same_index(tally, &mut rng);
     for call in write_calls(&mut rng) {
         let need = call.args.size();
         for room in [call.room, need, need.saturating_sub(1)] {
@@ -74,6 +77,29 @@ fn same_back(tally: &mut Tally, rng: &mut Rng, trail: &[u8]) {
     for place in [trail.len(), wild_place(rng, trail.len())] {
         same_before(tally, trail, place);
         same_around(tally, rng, trail, place);
+    }
+}
+
+/// Compares fills of an index while a trail grows and from a wild state, and
+/// records by their numbers with its table and with a wild one.
+fn same_index(tally: &mut Tally, rng: &mut Rng) {
+    let trail = indexed_trail(rng, 200);
+    let mut growing = GrowingIndex::new();
+    for cut in growth(rng, trail.len()) {
+        growing.grown(tally, &trail[..cut]);
+        let records = reference::run(&trail[..cut], State::default())
+            .state
+            .records;
+        growing.find(tally, &trail, wild_number(rng, records));
+    }
+    for _ in 0..4 {
+        let table = wild_table(rng, &trail);
+        let count = wild_count(rng, table.len());
+        let n = wild_number(rng, 200);
+        same_find(tally, &trail, &table, count, n);
+        let state = wild_state(rng, trail.len());
+        let entries = rng.below(12);
+        same_fill(tally, &trail, state, &vec![UNFILLED; entries]);
     }
 }
 
@@ -233,6 +259,19 @@ fn words_before(ending: Ending) -> &'static str {
     }
 }
 
+/// What a fill or a record's number came to, in a few words.
+fn words_indexed(indexed: Indexed) -> &'static str {
+    match indexed {
+        Indexed::Filled => "a table filled",
+        Indexed::NoRoom => "a table too short",
+        Indexed::BadState => "a state refused with 2",
+        Indexed::Record => "a record, found by its number",
+        Indexed::End => "the trail's end before it",
+        Indexed::Refused => "a refused item before it",
+        Indexed::Beyond => "an entry beyond the trail",
+    }
+}
+
 /// What is wrong beside a version, in a few words.
 fn words_beside(beside: Beside) -> String {
     match beside {
@@ -266,6 +305,11 @@ impl Display for Soaked {
         for ending in ENDINGS {
             let times = tally.ending_times(ending);
             writeln!(f, "{times:>12}  {}", words_before(ending))?;
+        }
+        writeln!(f, "indexes, by what came of a fill or a number")?;
+        for indexed in INDEXED {
+            let times = tally.indexed_times(indexed);
+            writeln!(f, "{times:>12}  {}", words_indexed(indexed))?;
         }
         self.show_kinds(f)
     }

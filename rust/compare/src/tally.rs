@@ -1,5 +1,6 @@
 //! Counting what was compared.
 
+use crate::index::Indexed;
 use generator::{address_fault, body_address_fault, call_address_fault};
 use generator::{large_version, spoilt_body, spoilt_call, spoilt_item, spoilt_token};
 use generator::{AddressFault, Beside, Ending, Spoilt, WriteArgs};
@@ -34,6 +35,7 @@ pub struct Tally {
     endings: BTreeMap<Ending, usize>,
     addresses: BTreeMap<(u8, usize), usize>,
     faults: BTreeMap<(u8, AddressFault), usize>,
+    indexed: BTreeMap<Indexed, usize>,
 }
 
 impl Default for Tally {
@@ -55,6 +57,7 @@ impl Tally {
             endings: BTreeMap::new(),
             addresses: BTreeMap::new(),
             faults: BTreeMap::new(),
+            indexed: BTreeMap::new(),
         }
     }
 
@@ -141,6 +144,11 @@ impl Tally {
         *self.endings.entry(ending).or_insert(0) += 1;
     }
 
+    /// One fill, or one record asked for by its number, that came to this.
+    pub fn indexed(&mut self, indexed: Indexed) {
+        *self.indexed.entry(indexed).or_insert(0) += 1;
+    }
+
     /// One token or item of this kind, read or written; a record counts for
     /// its header.
     pub fn kind(&mut self, number: u8) {
@@ -162,6 +170,7 @@ impl Tally {
         add_counts(&mut self.endings, &other.endings);
         add_counts(&mut self.addresses, &other.addresses);
         add_counts(&mut self.faults, &other.faults);
+        add_counts(&mut self.indexed, &other.indexed);
     }
 
     /// How often no refusal came, and each of the refusals from 1 on.
@@ -194,6 +203,11 @@ impl Tally {
     /// How often a step back met this.
     pub fn ending_times(&self, ending: Ending) -> usize {
         self.endings.get(&ending).copied().unwrap_or(0)
+    }
+
+    /// How often a fill, or a record asked for by its number, came to this.
+    pub fn indexed_times(&self, indexed: Indexed) -> usize {
+        self.indexed.get(&indexed).copied().unwrap_or(0)
     }
 
     /// How often the header or token with this number had, or was to be given,
@@ -273,6 +287,13 @@ impl Tally {
     pub fn finish_endings(&self, test: &str) {
         println!("{test}: before places {:?}", self.endings);
         each_often(test, &ENDINGS, |ending| self.ending_times(ending));
+    }
+
+    /// Prints what fills and records asked for by their numbers came to, and
+    /// asserts that each of these came often.
+    pub fn finish_indexed(&self, test: &str, kinds: &[Indexed]) {
+        println!("{test}: {:?}", self.indexed);
+        each_often(test, kinds, |kind| self.indexed_times(kind));
     }
 
     /// Asserts that each of the twenty-five token kinds came often.

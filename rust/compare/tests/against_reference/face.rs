@@ -6,71 +6,6 @@ use compare::*;
 use generator::*;
 use reference::{Answer, Before, Item, Party, Refusal, State, Token, TokenAnswer};
 
-/// Where a part stands in its trail.
-fn start_in(trail: &[u8], part: &[u8]) -> u64 {
-    raw_part(trail, Some(part)).start
-}
-
-/// Where the address of the record that an answer tells stands.
-fn raw_address(trail: &[u8], answer: &Answer<'_>) -> bsm_part {
-    match answer {
-        Answer::Item(item) => raw_part(trail, address_of_item(item)),
-        _ => bsm_part::default(),
-    }
-}
-
-fn raw_item(trail: &[u8], answer: Answer<'_>) -> bsm_item {
-    let address = raw_address(trail, &answer);
-    match answer {
-        Answer::End => bsm_item {
-            kind: BSM_END,
-            ..bsm_item::default()
-        },
-        Answer::Item(Item::File {
-            size,
-            seconds,
-            microseconds,
-            name,
-        }) => bsm_item {
-            kind: BSM_FILE,
-            size: size as u64,
-            seconds: seconds.into(),
-            fraction: microseconds.into(),
-            start: start_in(trail, name),
-            length: name.len() as u64,
-            ..bsm_item::default()
-        },
-        Answer::Item(Item::Record {
-            size,
-            header,
-            tokens,
-            body,
-        }) => bsm_item {
-            kind: BSM_RECORD,
-            size: size as u64,
-            header: header.number.into(),
-            version: header.version.into(),
-            event: header.event.into(),
-            modifier: header.modifier.into(),
-            seconds: header.seconds,
-            fraction: header.nanoseconds,
-            tokens: tokens as u64,
-            start: start_in(trail, body),
-            length: body.len() as u64,
-            address_start: address.start,
-            address_length: address.length,
-            ..bsm_item::default()
-        },
-        Answer::Refused(refusal) => bsm_item {
-            kind: BSM_REFUSED,
-            number: refusal.number.into(),
-            place: refusal.place as u64,
-            need: refusal.need as u64,
-            ..bsm_item::default()
-        },
-    }
-}
-
 /// One step from a state.
 fn raw_step(trail: &[u8], state: State) -> bsm_step {
     let sum = state.records.checked_add(state.files);
@@ -259,26 +194,18 @@ fn items_field_by_field() {
             let found = bsm_name_at(bytes, length, place);
             assert_eq!(found, raw_part(&trail, name));
             let found = bsm_address_at(bytes, length, place);
-            assert_eq!(found, raw_address(&trail, &answer));
+            let address = match &answer {
+                Answer::Item(item) => address_of_item(item),
+                _ => None,
+            };
+            assert_eq!(found, raw_part(&trail, address));
         }
 
         let run = reference::run(&trail, state);
         tally.item_answer(&trail, run.state.place, run.refusal);
-        let refusal = run
-            .refusal
-            .map(Err)
-            .map_or(bsm_written::default(), raw_written);
-        let expected = bsm_outcome {
-            place: run.state.place as u64,
-            records: run.state.records as u64,
-            files: run.state.files as u64,
-            number: refusal.number,
-            at: refusal.place,
-            need: refusal.need,
-        };
         // SAFETY: as above.
         let found = unsafe { bsm_run(bytes, length, state.place, records, files) };
-        assert_eq!(found, expected);
+        assert_eq!(found, raw_outcome(run));
         for state in [state, run.state] {
             // SAFETY: as above.
             let found = unsafe { bsm_next(bytes, length, state.place, state.records, state.files) };

@@ -8,6 +8,7 @@ mod expanded;
 mod face;
 mod failing;
 mod growing;
+mod index;
 mod listing;
 mod newest;
 mod placed;

@@ -1,7 +1,7 @@
 //! What `./soak` does with its seeds, on a few of them.
 
 use compare::soak::{compare_seed, soak};
-use compare::{EXPANDED_HEADERS, REASONS};
+use compare::{EXPANDED_HEADERS, INDEXED, REASONS};
 use generator::*;
 use std::sync::atomic::{AtomicUsize, Ordering};
 
@@ -47,6 +47,11 @@ fn a_few_seeds_meet_every_answer_and_kind() {
     }
     for kind in ENDINGS {
         let times = soaked.tally.ending_times(kind);
+        assert!(times > 100, "{kind:?} {times}");
+        assert!(shown.contains(&format!("\n{times:>12}  ")), "{kind:?}");
+    }
+    for kind in INDEXED {
+        let times = soaked.tally.indexed_times(kind);
         assert!(times > 100, "{kind:?} {times}");
         assert!(shown.contains(&format!("\n{times:>12}  ")), "{kind:?}");
     }
