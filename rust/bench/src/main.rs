@@ -6,6 +6,7 @@
 #![deny(unsafe_code)]
 
 mod earlier;
+mod index;
 mod list;
 mod memchr;
 mod newest;
@@ -30,6 +31,9 @@ const BYTES: usize = 4 << 20;
 
 /// Bytes of a trail of which only the end is read.
 const MANY_BYTES: usize = 64 << 20;
+
+/// Records of a trail of which one is looked up.
+const MANY_RECORDS: usize = 60_000;
 
 /// What the table shows.
 const ABOUT: &str = "\
@@ -62,6 +66,7 @@ fn main() -> ExitCode {
     let exec = generator::large_exec(BYTES);
     let opaque = generator::large_opaque(BYTES);
     let long = generator::usual_records(MANY_BYTES);
+    let many = index::first(&long, MANY_RECORDS);
     let loads = vec![
         read::run("run, small records", &small),
         read::run("run, usual records", &usual),
@@ -86,6 +91,11 @@ fn main() -> ExitCode {
         list::load("list, small records", &small),
         list::load("list, usual records", &usual),
         list::load("list, expanded records", &expanded),
+        index::fill("fill index, small records", &small),
+        index::fill("fill index, usual records", &usual),
+        index::find("record 40,000 of 60,000", many, 40_000),
+        index::find("record 40,063 of 60,000", many, 40_063),
+        index::from_start("40,000 without index", many, 40_000),
     ];
 
     println!("{ABOUT}\n\n{rounds} rounds\n");
