@@ -51,10 +51,20 @@ impl Given<'_> {
 /// The files that were named, and how the words were.
 #[derive(Debug)]
 pub struct Files {
-    /// What was named, in order; `-` where nothing was.
+    /// What was named, in order; `-` is standard input.
     pub names: Vec<OsString>,
     /// [`Status::Failed`] where an option was unknown.
     pub status: Status,
+}
+
+impl Files {
+    /// Standard input where no name was given, unless an option was unknown.
+    fn or_input(mut self) -> Self {
+        if self.names.is_empty() && self.status == Status::Ended {
+            self.names.push("-".into());
+        }
+        self
+    }
 }
 
 /// Reads the words behind a subcommand's name. `take` takes an option that
@@ -62,6 +72,29 @@ pub struct Files {
 /// not know is said and passed over, like a file that is not there; then
 /// standard input is read only where it is named.
 pub fn read(
+    words: Vec<OsString>,
+    take: impl FnMut(&str, &mut Given<'_>) -> Result<bool, String>,
+) -> Result<Files, Halt> {
+    Ok(named(words, take)?.or_input())
+}
+
+/// The same where the first word that is no option names no file, but what
+/// the help calls `what`.
+pub fn read_behind(
+    what: &str,
+    words: Vec<OsString>,
+    take: impl FnMut(&str, &mut Given<'_>) -> Result<bool, String>,
+) -> Result<(OsString, Files), Halt> {
+    let mut files = named(words, take)?;
+    if files.names.is_empty() {
+        return Err(Halt::Usage(format!("no {what}")));
+    }
+    let first = files.names.remove(0);
+    Ok((first, files.or_input()))
+}
+
+/// The words that are no options.
+fn named(
     words: Vec<OsString>,
     mut take: impl FnMut(&str, &mut Given<'_>) -> Result<bool, String>,
 ) -> Result<Files, Halt> {
@@ -77,9 +110,6 @@ pub fn read(
             say(format_args!("{}: unknown option", shown(&word)));
             status = Status::Failed;
         }
-    }
-    if names.is_empty() && status == Status::Ended {
-        names.push("-".into());
     }
     Ok(Files { names, status })
 }

@@ -1,4 +1,4 @@
-//! Choosing items, by the options that all subcommands share.
+//! Choosing items, by the options that all subcommands but record share.
 
 use crate::args::Given;
 use crate::fields::time_of;

@@ -11,6 +11,7 @@ mod followed;
 mod form;
 mod json;
 mod mistyped;
+mod numbers;
 mod output;
 mod reading;
 mod spoilt;
@@ -39,12 +40,12 @@ Shows BSM audit trails: files, or standard input for - or without a FILE.
 ";
 
 const TAIL: &str = "
-Status: 0 every trail was read to its end, 1 one was refused, 2 wrong usage or something
-that the system would not do, 3 one is short, that is, still being written or cut off,
-4 a followed trail shrank or was replaced, 130 interrupted before all was shown,
-141 standard output was closed. Of several, 2 comes before 1, and 1 before 3. A refusal
-is said on standard error with its number, place and need; README.md has what each
-number means.
+Status: 0 every trail was read to its end, 1 one was refused or has no record of a number
+asked for, 2 wrong usage or something that the system would not do, 3 one is short, that
+is, still being written or cut off, 4 a followed trail shrank or was replaced,
+130 interrupted before all was shown, 141 standard output was closed. Of several, 2 comes
+before 1, and 1 before 3. A refusal is said on standard error with its number, place and
+need; README.md has what each number means.
 ";
 
 fn main() -> ExitCode {

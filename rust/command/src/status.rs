@@ -10,7 +10,7 @@ pub enum Status {
     Ended,
     /// A trail ends inside an item: it is still being written.
     Short,
-    /// A trail was refused.
+    /// A trail was refused, or has no record of a number asked for.
     Refused,
     /// A followed trail shrank or is no longer the one that was opened.
     Changed,

@@ -1,4 +1,4 @@
-//! Showing files that are read whole, for list and print.
+//! Files that are read whole, and showing them, for list and print.
 
 use crate::args::{Files, Halt};
 use crate::each::show_each;
@@ -29,7 +29,7 @@ fn show_one(out: &mut Output, name: &OsStr, trail: &[u8], view: &View) -> io::Re
 }
 
 /// The bytes of a file, or of standard input for `-`.
-fn read(name: &OsStr) -> io::Result<Vec<u8>> {
+pub fn read(name: &OsStr) -> io::Result<Vec<u8>> {
     if name != "-" {
         return fs::read(name);
     }

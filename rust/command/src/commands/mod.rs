@@ -8,6 +8,7 @@ mod follow;
 mod list;
 mod newest;
 mod print;
+mod record;
 
 /// A subcommand.
 pub struct Subcommand {
@@ -22,5 +23,10 @@ pub struct Subcommand {
 }
 
 /// All of them, in the order of the help.
-pub static SUBCOMMANDS: [Subcommand; 4] =
-    [list::LIST, print::PRINT, newest::NEWEST, follow::FOLLOW];
+pub static SUBCOMMANDS: [Subcommand; 5] = [
+    list::LIST,
+    print::PRINT,
+    newest::NEWEST,
+    record::RECORD,
+    follow::FOLLOW,
+];

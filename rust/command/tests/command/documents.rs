@@ -107,7 +107,7 @@ fn replay(path: &Path, indent: &str) -> usize {
 #[test]
 fn stored_outputs() {
     let folder = Path::new(env!("CARGO_MANIFEST_DIR")).join("tests/golden");
-    for name in ["choosing", "damaged", "good", "short"] {
+    for name in ["choosing", "damaged", "good", "record", "short"] {
         let commands = replay(&folder.join(name), "");
         assert!(commands > 2, "{name}");
     }

@@ -6,11 +6,12 @@ use std::fs::File;
 use std::io::{pipe, Read};
 use std::process::{Command, Stdio};
 
-const WAYS: [&[&str]; 6] = [
+const WAYS: [&[&str]; 7] = [
     &["print"],
     &["print", "--json"],
     &["list"],
     &["newest"],
+    &["record", "0-9999"],
     &["follow"],
     &["follow", "--list"],
 ];

@@ -2,7 +2,7 @@
 
 use crate::run::*;
 
-const SUBCOMMANDS: [&str; 4] = ["list", "print", "newest", "follow"];
+const SUBCOMMANDS: [&str; 5] = ["list", "print", "newest", "record", "follow"];
 
 fn help(words: &[&str]) -> String {
     let ended = ended(bsm(words));
@@ -42,16 +42,16 @@ fn help_of_each() {
     for subcommand in SUBCOMMANDS {
         let of_it = help(&["help", subcommand]);
         assert!(of_it.starts_with(&format!("usage: bsm {subcommand} ")));
-        for words in [
-            &["-h"][..],
-            &["--help"],
-            &["missing", "--help"],
-            &["--event", "1", "-h", "missing"],
-        ] {
+        for words in [&["-h"][..], &["--help"], &["missing", "--help"]] {
             assert_eq!(help(&[&[subcommand], words].concat()), of_it);
         }
+        let chooses = subcommand != "record";
+        if chooses {
+            let words = [subcommand, "--event", "1", "-h", "missing"];
+            assert_eq!(help(&words), of_it);
+        }
         for option in ["--event", "--session", "--user", "--since", "--until"] {
-            assert!(of_it.contains(option), "{of_it}");
+            assert_eq!(of_it.contains(option), chooses, "{of_it}");
         }
     }
 }
@@ -63,6 +63,7 @@ fn lines_fit_a_terminal() {
         &["help", "list"],
         &["help", "print"],
         &["help", "newest"],
+        &["help", "record"],
         &["help", "follow"],
     ] {
         let help = help(words);

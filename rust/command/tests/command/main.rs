@@ -14,6 +14,7 @@ mod listing;
 mod mistyped;
 mod newest;
 mod printing;
+mod record;
 mod run;
 mod spoilt;
 mod trails;
