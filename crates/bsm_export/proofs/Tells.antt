@@ -18,14 +18,14 @@ use Rattle.bsm_token.proofs.Answers.{widths-few, behind-few}
 use Rattle.bsm_token.proofs.Reader.{token-at, token-numbers}
 use Rattle.bsm_item.specs.Item.{Item, fileItem, recordItem, Answer, item, end, short, refusal, itemAt}
 use Rattle.bsm_item.specs.Meaning.{partFor, addressFor, located}
-use Rattle.bsm_item.specs.Reading.{State, Placed, Reading, answerAt, with, plain, stopOf}
+use Rattle.bsm_item.specs.Reading.{State, Placed, answerAt, plain, stopOf}
 use Rattle.bsm_item.proofs.Longer.{refusal-numbers}
-use Rattle.bsm_item.proofs.Runs.{Stops, Reads, stops, goes, plain-reads}
+use Rattle.bsm_item.proofs.Runs.{Stops, plain-last}
 use Rattle.bsm_back.specs.Back.{Back, found, boundary, refused, recordBefore}
 use Rattle.bsm_back.specs.Meaning.{locatedBack}
 use Rattle.bsm_back.proofs.Depends.{only-beyond}
 use Rattle.bsm_index.specs.Fill.{recordsOf, tooSmall, fillBy, fillOf}
-use Rattle.bsm_index.specs.Find.{found as foundRecord, missing, nth, recordIn, from, recordFrom, filled, nearest, byEntry, byFilled, findRecord}
+use Rattle.bsm_index.specs.Find.{found as foundRecord, missing, nth, nthRecord, from, recordFrom, filled, nearest, byEntry, byFilled, findRecord}
 use Rattle.bsm_index.specs.Meaning.{foundAt}
 use Rattle.bsm_bytes.specs.Write.{Draft, code, Reply, wrote, denied, answerIn, Written}
 use Rattle.bsm_draft.specs.Given.{tokenDraft}
@@ -113,12 +113,6 @@ bodies-tell s = go (walk s) refl
     go (tokens n) e z = refl
     go (bad f) e z = absurd (token-number (body-fault s e .number) z)
 
--- a run stops at the answer that stands at its last state, which is no item
-stop-answer : {s : List ℕ} {st : State} {r : Reading} → Reads s st r → (answerAt s (r .state) ≡ r .answer) × Stops (r .answer)
-unfolding with
-stop-answer (stops h) = (refl, h)
-stop-answer (goes e p) = stop-answer p
-
 -- a refusal at a state is 2 for its totals, or one at its place
 state-number : (s : List ℕ) (st : State) (e q n : ℕ) → answerAt s st ≡ refusal e q n → e ≢ 0
 unfolding answerAt
@@ -130,7 +124,7 @@ state-number s st e q n f z = go (ltb (st .place) (st .records + st .files)) f
 
 runs-tell : (s : List ℕ) (st : State) → (flatOutcome (stopOf (plain s st))) .number ≡ 0 → (plain s st) .answer ≡ end
 unfolding flatOutcome stoppedBy
-runs-tell s st = let w = stop-answer (plain-reads s st) in go ((plain s st) .answer) (w .0) (w .1)
+runs-tell s st = let w = plain-last s st in go ((plain s st) .answer) (w .0) (w .1)
   where
     last : State
     last = (plain s st) .state
@@ -153,8 +147,8 @@ fills-tell s st t = go (tooSmall (plain s st) t)
 
 -- counted from a place on
 from-tells : (s : List ℕ) (p n : ℕ) → (foundNumbers (foundAt (recordFrom s p n))) .item .number ≡ 0 → (foundNumbers (foundAt (recordFrom s p n))) .item .kind ≢ 3
-unfolding recordFrom recordIn nth foundAt flatAnswer flatFound
-from-tells s p n = let w = stop-answer (plain-reads s (from p)) in go (recordsOf ((plain s (from p)) .items)) n ((plain s (from p)) .answer) (w .0)
+unfolding recordFrom nthRecord nth foundAt flatAnswer flatFound
+from-tells s p n = let w = plain-last s (from p) in go (recordsOf ((plain s (from p)) .items)) n ((plain s (from p)) .answer) (w .0)
   where
     last : State
     last = (plain s (from p)) .state
