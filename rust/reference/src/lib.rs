@@ -1,6 +1,6 @@
 //! A second reader and writer of BSM audit trails, written from paper 01 and
-//! the landed requests of paper 02 (P1 to P3, P5, P6) alone. It is there to be
-//! compared with another implementation, and to be its baseline for speed.
+//! the landed requests of paper 02 (P1 to P3, P5 to P7) alone. It is there to
+//! be compared with another implementation, and to be its baseline for speed.
 //!
 //! Reading allocates nothing and hands back parts of the lent buffer. Every
 //! call answers for every input; see [`Refusal`] for the numbers.

@@ -1,4 +1,5 @@
-//! The refusal and its numbers (paper 01, 'Refusal numbers'; paper 02, P5).
+//! The refusal and its numbers (paper 01, 'Refusal numbers'; paper 02, P5,
+//! P7).
 
 /// An answer that is not a result.
 ///
@@ -6,10 +7,11 @@
 /// here, 4 record size out of bounds, 5 trailer missing, 6 no body token
 /// starts here, 7 token leaves the body, 8 bad text, 9 time fraction too
 /// large, 10 destination too small, 11 value too large for its field,
-/// 12 program input too long, 13 an address's type is neither 4 nor 16.
+/// 12 program input too long, 13 an address's type is neither 4 nor 16, 14 a
+/// record's second subject.
 #[derive(Clone, Copy, Debug, PartialEq, Eq)]
 pub struct Refusal {
-    /// Which of the numbers 1 to 13.
+    /// Which of the numbers 1 to 14.
     pub number: u8,
     /// The place the refusal speaks of; for number 8 that of the first byte
     /// that offends (paper 02, P1).
@@ -54,3 +56,4 @@ pub(crate) const NO_ROOM: u8 = 10;
 pub(crate) const TOO_LARGE: u8 = 11;
 pub(crate) const TOO_LONG: u8 = 12;
 pub(crate) const BAD_TYPE: u8 = 13;
+pub(crate) const SECOND_SUBJECT: u8 = 14;

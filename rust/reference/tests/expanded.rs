@@ -297,19 +297,19 @@ fn addresses_of_tokens() {
         for address in addresses() {
             let kind = address.len() as u32;
             let whole = token(number, fixed, kind, address);
-            let body = [&whole[..], &whole, b"\x2C\0\x07"].concat();
+            let body = [b"\x2C\0\x07", &whole[..], b"\x2C\0\x07"].concat();
             assert_eq!(walk_body(&body), Ok(3));
             let TokenAnswer::Token {
                 token,
                 start,
                 length,
                 size,
-            } = token_at(&body, whole.len())
+            } = token_at(&body, 3)
             else {
                 panic!("no token");
             };
             assert_eq!(token.number(), number);
-            assert_eq!((start, length), (whole.len() + fixed, address.len()));
+            assert_eq!((start, length), (3 + fixed, address.len()));
             assert_eq!(size, whole.len());
             assert_eq!(&body[start..start + length], address);
         }

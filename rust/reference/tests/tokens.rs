@@ -329,6 +329,8 @@ fn refused(number: u8, place: usize) -> TokenAnswer<'static> {
     })
 }
 
+/// The token reader takes any tokens one behind the other, the walk over a
+/// body no more than one subject (paper 02, P7).
 #[test]
 fn all_kinds_in_one_body() {
     let mut body = Vec::new();
@@ -337,7 +339,15 @@ fn all_kinds_in_one_body() {
         places.push(body.len());
         body.extend_from_slice(&bytes);
     }
-    assert_eq!(walk_body(&body), Ok(kinds().len()));
+    let (subjects, others): (Vec<_>, Vec<_>) = kinds()
+        .into_iter()
+        .map(|kind| kind.2)
+        .partition(|bytes| [0x24, 0x75, 0x7A, 0x7C].contains(&bytes[0]));
+    assert_eq!(subjects.len(), 6);
+    for subject in subjects {
+        let body = [others.concat(), subject].concat();
+        assert_eq!(walk_body(&body), Ok(others.len() + 1));
+    }
     let mut place = 0;
     for (expected, (_, read, _, _)) in places.iter().zip(kinds()) {
         assert_eq!(place, *expected);
