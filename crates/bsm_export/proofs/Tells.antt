@@ -13,7 +13,7 @@ use Rattle.bsm_token.specs.Token.{Token, Extent, tokenOf, extentOf, TokenAnswer
 use Rattle.bsm_token.specs.Flat.{flatToken}
 use Rattle.bsm_token.specs.Demands.{TokenNumber}
 use Rattle.bsm_token.specs.declared.refusal.Refusal.{Refusal}
-use Rattle.bsm_token.proofs.Faults.{body-fault}
+use Rattle.bsm_token.proofs.Faults.{BodyNumber, body-fault}
 use Rattle.bsm_token.proofs.Answers.{widths-few, behind-few}
 use Rattle.bsm_token.proofs.Reader.{token-at, token-numbers}
 use Rattle.bsm_item.specs.Item.{Item, fileItem, recordItem, Answer, item, end, short, refusal, itemAt}
@@ -79,6 +79,9 @@ backs-tell s p = go (recordBefore s p) refl
 token-number : {e : ℕ} → TokenNumber e → e ≢ 0
 token-number w z = ⊎-elim (λ x. omega (arith, x .0)) (λ x. omega arith) w
 
+body-number : {e : ℕ} → BodyNumber e → e ≢ 0
+body-number w z = ⊎-elim (λ x. omega (arith, x .0)) (λ x. omega (arith, x .0)) w
+
 tokens-tell : (s : List ℕ) (p : ℕ) → (flatToken (tokenAt s p)) .number ≡ 0 → (flatToken (tokenAt s p)) .kind ≢ 3
 unfolding flatToken
 tokens-tell s p = go (tokenAt s p) refl
@@ -111,7 +114,7 @@ bodies-tell s = go (walk s) refl
   where
     go : (w : Walk) → walk s ≡ w → (flatWalk w) .number ≡ 0 → w ≡ tokens ((flatWalk w) .written)
     go (tokens n) e z = refl
-    go (bad f) e z = absurd (token-number (body-fault s e .number) z)
+    go (bad f) e z = absurd (body-number (body-fault s e .number) z)
 
 -- a refusal at a state is 2 for its totals, or one at its place
 state-number : (s : List ℕ) (st : State) (e q n : ℕ) → answerAt s st ≡ refusal e q n → e ≢ 0
@@ -249,7 +252,7 @@ numbers-tell =
       ofFiles = λ values name. tells (fileDraft values name) (λ d d′ f w. among-above (9 ∷ 8 ∷ 10 ∷ []) (f .number) (omega arith, (omega arith, (omega arith, tt))) (file-refusals values name d d′ f w .number));
       ofRecords = λ h body.
           tells (recordDraft h body)
-          (λ d d′ f w. ⊎-elim (λ o. among-above (13 ∷ 4 ∷ 11 ∷ 9 ∷ 10 ∷ []) (f .number) (omega arith, (omega arith, (omega arith, (omega arith, (omega arith, tt))))) (o .number)) (λ b. token-number (body-fault body (b .found) .number)) (record-refusals h body d d′ f w));
+          (λ d d′ f w. ⊎-elim (λ o. among-above (13 ∷ 4 ∷ 11 ∷ 9 ∷ 10 ∷ []) (f .number) (omega arith, (omega arith, (omega arith, (omega arith, (omega arith, tt))))) (o .number)) (λ b. body-number (body-fault body (b .found) .number)) (record-refusals h body d d′ f w));
       ofLines = lines-tell;
       ofItems = item-lines-tell;
       stages = stages-back;
