@@ -1,5 +1,5 @@
 // Writes a token of each kind, a file token and records into one buffer, one behind the other; for each it prints the bytes that
-// were written, in hexadecimal and parted into fields, and what is read there. Last comes a write that is refused.
+// were written, in hexadecimal and parted into fields, and what is read there. Last come writes that are refused.
 ghost use Prim.Native.Nat.{_≤_};
 ghost use lib.ListN.{length};
 
@@ -11,8 +11,8 @@ mod tokens;
 use bsm_bytes::bytes::write_bytes;
 use bsm_field::number::u8_at;
 use bsm_token::part::part;
-use items::five;
 use items::write_item;
+use items::write_refused;
 use print::behind;
 use print::print_written;
 use read::count;
@@ -62,5 +62,5 @@ fn main() {
     let at = all_tokens(&mut space);
     let n = count(write_bytes(&mut body, part(&space, 0, at)));
     all_items(&mut space, at, part(&body, 0, n));
-    five(&mut space);
+    write_refused(&mut space, part(&body, 0, n));
 }
