@@ -5,6 +5,7 @@ use crate::good::{body_for, good_body, good_header_of};
 use crate::header_args::HeaderArgs;
 use crate::layout::{is_expanded, Tail, HEADER_NUMBERS, TOKEN_NUMBERS};
 use crate::rng::Rng;
+use crate::subjects::two_subjects_args;
 use crate::targeted::bad_body;
 use crate::token_args::{good_args, TokenArgs};
 use crate::values;
@@ -68,11 +69,11 @@ impl WriteArgs {
 }
 
 /// One call for each of the twenty-five token kinds, for the file token and
-/// for records with each header, and one more for each header with a version
-/// that is too large. About half of the others that can be refused for their
-/// values are.
+/// for records with each header, and two more for each header: with a version
+/// that is too large, and with two subjects. About half of the others that can
+/// be refused for their values are.
 pub fn write_calls(rng: &mut Rng) -> Vec<WriteCall> {
-    let mut all = Vec::with_capacity(TOKEN_NUMBERS.len() + 1 + 2 * HEADER_NUMBERS.len());
+    let mut all = Vec::with_capacity(TOKEN_NUMBERS.len() + 1 + 3 * HEADER_NUMBERS.len());
     for number in TOKEN_NUMBERS {
         all.push(WriteArgs::Token(token(rng, number)));
     }
@@ -80,6 +81,7 @@ pub fn write_calls(rng: &mut Rng) -> Vec<WriteCall> {
     for number in HEADER_NUMBERS {
         all.push(record(rng, number));
         all.push(large_version_args(rng, number));
+        all.push(two_subjects_args(rng, number));
     }
     all.into_iter()
         .map(|args| {
@@ -209,7 +211,7 @@ fn record(rng: &mut Rng, number: u8) -> WriteArgs {
     match rng.below(6) {
         0 => damage_body(rng, &mut body),
         1 => {
-            let refused = rng.pick(&[6, 7, 8, 13]);
+            let refused = rng.pick(&[6, 7, 8, 13, 14]);
             body = bad_body(rng, refused);
         }
         _ => {}

@@ -1,8 +1,9 @@
 //! Damage to trails and bodies.
 
 use crate::expanded::with_one_byte_type;
+use crate::good::token_of;
 use crate::layout::{framed, get16, get32, head_size, is_expanded, is_narrow, items, set, shape};
-use crate::layout::{tokens, Tail, TOKEN_NUMBERS};
+use crate::layout::{tokens, Tail, SUBJECT_NUMBERS, TOKEN_NUMBERS};
 use crate::rng::Rng;
 use crate::texts::spoil;
 use crate::values;
@@ -56,8 +57,23 @@ pub fn damage_body(rng: &mut Rng, body: &mut Vec<u8>) {
             damage_bytes(rng, body);
             continue;
         }
+        if rng.chance(8) {
+            add_subjects(rng, body);
+            continue;
+        }
         let (start, size) = rng.pick(&found);
         damage_token(rng, body, start, size);
+    }
+}
+
+/// Puts one subject or two into a body that has tokens, each before or behind
+/// one of them.
+fn add_subjects(rng: &mut Rng, body: &mut Vec<u8>) {
+    for _ in 0..rng.between(1, 2) {
+        let (start, size) = rng.pick(&tokens(body));
+        let at = rng.pick(&[start, start + size]);
+        let number = rng.pick(&SUBJECT_NUMBERS);
+        body.splice(at..at, token_of(rng, number));
     }
 }
 

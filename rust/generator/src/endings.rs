@@ -196,7 +196,7 @@ fn refused_record(rng: &mut Rng) -> Vec<u8> {
         header.fields.nanoseconds = values::over(rng, 999_999_999, 32);
         Vec::new()
     } else {
-        let number = rng.pick(&[6, 7, 8, 13]);
+        let number = rng.pick(&[6, 7, 8, 13, 14]);
         bad_body(rng, number)
     };
     raw_record(&header.header(), &body)

@@ -2,12 +2,11 @@
 //! told from the bytes at the place of a refusal, and records aimed at each.
 
 use crate::calls::WriteArgs;
-use crate::good::{good_body, good_header, good_header_of, good_token, token_bytes};
+use crate::good::{good_body, good_header, good_header_of, good_token, good_tokens, token_of};
 use crate::header_args::HeaderArgs;
-use crate::layout::{framed, get32, head_size, is_expanded, least_size, raw_record, set, shape};
-use crate::layout::{Tail, EXPANDED_NUMBERS};
+use crate::layout::{framed, get32, head_size, in_body, is_expanded, least_size, raw_record};
+use crate::layout::{set, shape, Tail, EXPANDED_NUMBERS};
 use crate::rng::Rng;
-use crate::token_args::good_args;
 use crate::values;
 use reference::Refusal;
 
@@ -80,10 +79,8 @@ pub fn address_fault(trail: &[u8], start: usize, refusal: &Refusal) -> Option<(u
                 .then_some((number, Count))
         }
         7 | 13 => {
-            let head = head_size(record);
-            let body = record.get(head..get32(record, 1)? - 7)?;
-            let place = refusal.place - start - head;
-            body_address_fault(body, &Refusal { place, ..*refusal })
+            let (body, refusal) = in_body(trail, start, refusal)?;
+            body_address_fault(body, &refusal)
         }
         _ => None,
     }
@@ -171,10 +168,8 @@ fn short_head(rng: &mut Rng, mut header: HeaderArgs) -> Vec<u8> {
 
 /// A body with a token that is refused for this.
 pub(crate) fn faulty_body(rng: &mut Rng, number: u8, fault: AddressFault) -> Vec<u8> {
-    let mut body = Vec::new();
-    for _ in 0..rng.below(3) {
-        body.extend(good_token(rng));
-    }
+    let before = rng.below(3);
+    let mut body = good_tokens(rng, before);
     body.extend(faulty_token(rng, number, fault));
     if fault == Type && rng.chance(2) {
         body.extend(good_token(rng));
@@ -184,8 +179,8 @@ pub(crate) fn faulty_body(rng: &mut Rng, number: u8, fault: AddressFault) -> Vec
 
 /// An expanded token that is refused for this: with a type that is none, or
 /// cut before its type ends, or before its address does.
-fn faulty_token(rng: &mut Rng, number: u8, fault: AddressFault) -> Vec<u8> {
-    let mut token = token_bytes(&good_args(rng, number));
+pub(crate) fn faulty_token(rng: &mut Rng, number: u8, fault: AddressFault) -> Vec<u8> {
+    let mut token = token_of(rng, number);
     let fixed = shape(number).map_or(1, |shape| shape.0);
     let ends = match fault {
         NoType => 1..fixed,

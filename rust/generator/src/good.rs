@@ -1,7 +1,8 @@
 //! Good tokens, bodies, items and trails.
 
 use crate::header_args::HeaderArgs;
-use crate::layout::{header_size, is_expanded, is_narrow, HEADER_NUMBERS, TOKEN_NUMBERS};
+use crate::layout::{header_size, is_expanded, is_narrow, is_subject};
+use crate::layout::{HEADER_NUMBERS, TOKEN_NUMBERS};
 use crate::rng::Rng;
 use crate::token_args::{good_args, TokenArgs};
 use crate::values;
@@ -30,10 +31,46 @@ pub(crate) fn token_with(fields: WriteToken<'static>, bytes: Vec<u8>) -> Vec<u8>
 /// A good token of any kind.
 pub fn good_token(rng: &mut Rng) -> Vec<u8> {
     let number = rng.pick(&TOKEN_NUMBERS);
+    token_of(rng, number)
+}
+
+/// A good token with this number, which must be a body token's.
+pub fn token_of(rng: &mut Rng, number: u8) -> Vec<u8> {
     token_bytes(&good_args(rng, number))
 }
 
-/// A good body, small enough for any header; often empty.
+/// The number of a token that is no subject.
+pub(crate) fn other_number(rng: &mut Rng) -> u8 {
+    loop {
+        let number = rng.pick(&TOKEN_NUMBERS);
+        if !is_subject(number) {
+            return number;
+        }
+    }
+}
+
+/// So many good tokens, fewer where they would not fit any header's record. At
+/// most one of them is a subject.
+pub(crate) fn good_tokens(rng: &mut Rng, count: usize) -> Vec<u8> {
+    let mut body = Vec::new();
+    let mut subject = false;
+    for _ in 0..count {
+        let number = if subject {
+            other_number(rng)
+        } else {
+            rng.pick(&TOKEN_NUMBERS)
+        };
+        let token = token_of(rng, number);
+        if body.len() + token.len() <= RECORD_MAX - header_size(0x79) - 16 - 7 {
+            body.extend(token);
+            subject |= is_subject(number);
+        }
+    }
+    body
+}
+
+/// A good body with at most one subject, small enough for any header; often
+/// empty.
 pub fn good_body(rng: &mut Rng) -> Vec<u8> {
     let count = match rng.below(16) {
         0..=2 => 0,
@@ -41,14 +78,7 @@ pub fn good_body(rng: &mut Rng) -> Vec<u8> {
         15 if rng.chance(4) => rng.below(60),
         _ => rng.below(7),
     };
-    let mut body = Vec::new();
-    for _ in 0..count {
-        let token = good_token(rng);
-        if body.len() + token.len() <= RECORD_MAX - header_size(0x79) - 16 - 7 {
-            body.extend(token);
-        }
-    }
-    body
+    good_tokens(rng, count)
 }
 
 /// A good header of any kind.
@@ -78,7 +108,7 @@ pub(crate) fn good_header_of(rng: &mut Rng, number: u8) -> HeaderArgs {
 /// A body whose record, with a header of `head` bytes, has exactly `size`
 /// bytes: one opaque behind a return token.
 pub(crate) fn body_for(rng: &mut Rng, head: usize, size: usize) -> Vec<u8> {
-    let mut body = token_bytes(&good_args(rng, 0x27));
+    let mut body = token_of(rng, 0x27);
     let left = size.saturating_sub(head + 7 + body.len());
     let bytes = rng.bytes(left.saturating_sub(3));
     body.extend(token_with(WriteToken::Opaque { bytes: &[] }, bytes));

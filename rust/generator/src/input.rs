@@ -83,7 +83,7 @@ pub fn wild_state(rng: &mut Rng, trail_len: usize) -> State {
 /// A trail of any kind, and a state to read it from, mostly fresh.
 pub fn any_input(rng: &mut Rng) -> (Vec<u8>, State) {
     let items = rng.pick(&[1, 1, 2, 3, 6]);
-    let trail = match rng.below(28) {
+    let trail = match rng.below(32) {
         0..=2 => good_trail(rng, items),
         3..=9 => {
             let mut trail = good_trail(rng, items);
@@ -94,8 +94,9 @@ pub fn any_input(rng: &mut Rng) -> (Vec<u8>, State) {
             let number = rng.pick(&READ_REFUSALS);
             return targeted(rng, number);
         }
-        // 8 comes in many kinds.
+        // 8 comes in many kinds, and so does 14.
         20..=23 => return targeted(rng, 8),
+        28..=31 => return targeted(rng, 14),
         way @ (15..=17 | 24..=27) => {
             let mut trail = good_trail(rng, items / 2);
             trail.extend(match way {
@@ -121,7 +122,7 @@ pub fn any_input(rng: &mut Rng) -> (Vec<u8>, State) {
 /// A body of any kind for the token reader.
 pub fn any_body(rng: &mut Rng) -> Vec<u8> {
     let mut body = good_body(rng);
-    match rng.below(9) {
+    match rng.below(11) {
         0 => {}
         1 => {
             let length = rng.below(50);
@@ -130,8 +131,8 @@ pub fn any_body(rng: &mut Rng) -> Vec<u8> {
                 *first = rng.pick(&TOKEN_NUMBERS);
             }
         }
-        2..=5 => {
-            let number = rng.pick(&[6, 7, 7, 8, 8, 13]);
+        2..=7 => {
+            let number = rng.pick(&[6, 7, 7, 8, 8, 13, 14]);
             body = bad_body(rng, number);
         }
         _ => damage_body(rng, &mut body),

@@ -2,10 +2,9 @@
 //! records up with (paper 02, P6).
 
 use crate::damage::damage;
-use crate::good::{good_header, record_bytes, token_bytes};
+use crate::good::{good_header, record_bytes, token_of};
 use crate::rng::Rng;
 use crate::targeted::{refused_item, READ_REFUSALS};
-use crate::token_args::good_args;
 use crate::values;
 use reference::{reading, write_file, Item, State};
 
@@ -18,7 +17,7 @@ pub fn small_record(rng: &mut Rng) -> Vec<u8> {
     let body = match rng.below(3) {
         0 => {
             let number = rng.pick(&[0x27, 0x2A, 0x2C, 0x2F, 0x52]);
-            token_bytes(&good_args(rng, number))
+            token_of(rng, number)
         }
         _ => Vec::new(),
     };

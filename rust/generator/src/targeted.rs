@@ -2,16 +2,18 @@
 
 use crate::damage::{damage_body, COUNTS};
 use crate::expanded::{any_body_fault, faulty_body, with_address_fault, AddressFault};
-use crate::good::{good_body, good_file, good_header, good_record, good_token, good_trail};
+use crate::good::{good_body, good_file, good_header, good_record, good_token};
+use crate::good::{good_tokens, good_trail};
 use crate::layout::{head_size, is_expanded, is_narrow, least_size, raw_file, raw_record, set};
 use crate::layout::{shape, HEADER_NUMBERS, TOKEN_NUMBERS};
 use crate::rng::Rng;
+use crate::subjects::any_two_subjects;
 use crate::texts::{bad_name, bad_text, bad_text_token};
 use crate::values;
 use reference::State;
 
 /// The numbers with which the reading of a trail is refused.
-pub const READ_REFUSALS: [u8; 10] = [1, 2, 3, 4, 5, 6, 7, 8, 9, 13];
+pub const READ_REFUSALS: [u8; 11] = [1, 2, 3, 4, 5, 6, 7, 8, 9, 13, 14];
 
 /// A trail and a state whose reading is likely refused with `number`, one of
 /// [`READ_REFUSALS`]. The state is fresh except for number 2, which no fresh
@@ -50,7 +52,7 @@ pub fn refused_item(rng: &mut Rng, number: u8) -> Vec<u8> {
         4 => bad_count(rng),
         13 if rng.chance(3) => bad_header(rng, AddressFault::Type),
         5 => bad_trailer(rng),
-        6 | 7 | 13 => bad_token(rng, number),
+        6 | 7 | 13 | 14 => bad_token(rng, number),
         8 if rng.chance(3) => bad_name(rng),
         8 => bad_token(rng, number),
         9 => bad_fraction(rng),
@@ -160,32 +162,27 @@ fn bad_trailer(rng: &mut Rng) -> Vec<u8> {
     record
 }
 
-/// A record with a body refused with 6, 7, 8 or 13.
+/// A record with a body refused with 6, 7, 8, 13 or, mostly, 14.
 fn bad_token(rng: &mut Rng, number: u8) -> Vec<u8> {
     let header = good_header(rng);
     let body = bad_body(rng, number);
     raw_record(&header.header(), &body)
 }
 
-/// A body refused with 6, 7, 8 or 13.
+/// A body refused with 6, 7, 8, 13 or, mostly, 14.
 pub(crate) fn bad_body(rng: &mut Rng, number: u8) -> Vec<u8> {
+    if number == 14 {
+        return any_two_subjects(rng);
+    }
     if number == 13 || number == 7 && rng.chance(2) {
         let (token, fault) = any_body_fault(rng, number);
         return faulty_body(rng, token, fault);
     }
-    let mut body = Vec::new();
-    for _ in 0..rng.below(3) {
-        body.extend(good_token(rng));
-    }
+    let before = rng.below(3);
+    let mut body = good_tokens(rng, before);
     match number {
         6 => {
-            let first = loop {
-                let byte = rng.byte();
-                if shape(byte).is_none() {
-                    break byte;
-                }
-            };
-            body.push(rng.pick(&[first, first, 0x11, 0x13, 0x14, 0x15, 0x74, 0x79]));
+            body.push(no_token(rng));
             let more = rng.below(30);
             body.extend(rng.bytes(more));
         }
@@ -198,6 +195,17 @@ pub(crate) fn bad_body(rng: &mut Rng, number: u8) -> Vec<u8> {
         }
     }
     body
+}
+
+/// A byte with which no body token begins, often one that begins an item.
+pub(crate) fn no_token(rng: &mut Rng) -> u8 {
+    let any = loop {
+        let byte = rng.byte();
+        if shape(byte).is_none() {
+            break byte;
+        }
+    };
+    rng.pick(&[any, any, 0x11, 0x13, 0x14, 0x15, 0x74, 0x79])
 }
 
 /// A token, last in its body, that has no end there.
@@ -303,7 +311,10 @@ fn faulty_record(rng: &mut Rng) -> Vec<u8> {
     if is_expanded(header.fields.number) && rng.chance(3) {
         header.address = values::bad_address(rng);
     }
-    let mut body = good_body(rng);
+    let mut body = match rng.below(6) {
+        0 => any_two_subjects(rng),
+        _ => good_body(rng),
+    };
     if rng.chance(2) {
         damage_body(rng, &mut body);
         body.push(rng.pick(&TOKEN_NUMBERS));

@@ -40,7 +40,7 @@ pub enum Beside {
 use Beside::*;
 
 /// All of them, for headers that can have them.
-const ALL: [Beside; 14] = [
+const ALL: [Beside; 15] = [
     Nothing,
     Address,
     Length,
@@ -51,6 +51,7 @@ const ALL: [Beside; 14] = [
     Body(7),
     Body(8),
     Body(13),
+    Body(14),
     Room,
     Several,
     LengthAndMore,
@@ -67,8 +68,8 @@ const fn can_be(number: u8, beside: Beside) -> bool {
 }
 
 /// What can be wrong beside a version, by the header's number.
-pub const LARGE_VERSIONS: [(u8, Beside); 48] = {
-    let mut kinds = [(0, Nothing); 48];
+pub const LARGE_VERSIONS: [(u8, Beside); 52] = {
+    let mut kinds = [(0, Nothing); 52];
     let (mut at, mut pair) = (0, 0);
     while pair < HEADER_NUMBERS.len() * ALL.len() {
         let number = HEADER_NUMBERS[pair / ALL.len()];
@@ -136,7 +137,7 @@ pub(crate) fn large_version_args(rng: &mut Rng, number: u8) -> WriteArgs {
 /// Makes one thing else wrong. Seconds and nanoseconds of 33 bits or more fit
 /// times of 8 bytes.
 fn spoil_more(rng: &mut Rng, header: &mut HeaderArgs, body: &mut Vec<u8>) {
-    match rng.below(10) {
+    match rng.below(11) {
         0 => header.fields.seconds = values::over(rng, u32::MAX.into(), 64),
         1 => header.fields.nanoseconds = values::over(rng, u32::MAX.into(), 64),
         2 => header.fields.nanoseconds = values::over(rng, 999_999_999, 32),
@@ -146,7 +147,7 @@ fn spoil_more(rng: &mut Rng, header: &mut HeaderArgs, body: &mut Vec<u8>) {
         }
         5 if is_expanded(header.fields.number) => header.address = values::bad_address(rng),
         _ => {
-            let refused = rng.pick(&[6, 7, 8, 13]);
+            let refused = rng.pick(&[6, 7, 8, 13, 14]);
             *body = bad_body(rng, refused);
         }
     }

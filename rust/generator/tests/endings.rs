@@ -39,7 +39,7 @@ fn each_is_met_where_it_is_aimed_at() {
 fn places_of_mixed_trails_meet_most_of_them() {
     let mut rng = Rng::new(42);
     let mut kinds: BTreeMap<Ending, usize> = BTreeMap::new();
-    for _ in 0..5_000 {
+    for _ in 0..8_000 {
         let (trail, _) = any_input(&mut rng);
         for place in 0..=trail.len().min(500) + 1 {
             *kinds.entry(ending_at(&trail, place)).or_insert(0) += 1;

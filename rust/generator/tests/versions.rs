@@ -88,7 +88,7 @@ fn answer(header: &Header<'_>, body: &[u8]) -> u8 {
         Answer::Refused(refusal) => refusal.number,
         _ => 0,
     };
-    assert!(matches!(number, 0 | 6..=9 | 13), "{number}");
+    assert!(matches!(number, 0 | 6..=9 | 13 | 14), "{number}");
     // The last byte of the seconds alone decides on 9.
     let low = header.seconds as u8;
     let late = if header.number == 0x14 {

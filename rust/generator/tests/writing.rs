@@ -5,7 +5,7 @@ use reference::*;
 use std::collections::BTreeMap;
 
 /// Which writers answer with which refusals; 0 is none.
-const ANSWERS: [(&str, u8); 18] = [
+const ANSWERS: [(&str, u8); 19] = [
     ("token", 0),
     ("token", 8),
     ("token", 10),
@@ -24,6 +24,7 @@ const ANSWERS: [(&str, u8); 18] = [
     ("record", 10),
     ("record", 11),
     ("record", 13),
+    ("record", 14),
 ];
 
 #[test]
