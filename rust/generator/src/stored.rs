@@ -55,6 +55,7 @@ fn inputs() -> Vec<(&'static str, Vec<u8>)> {
     all.extend(cut_expanded());
     all.extend(bad_expanded());
     all.extend(bad_types());
+    all.extend(two_subjects());
     all.extend(sizes());
     all
 }
@@ -188,7 +189,8 @@ fn wide_versions() -> Vec<(&'static str, Vec<u8>)> {
     ]
 }
 
-/// Expanded headers and tokens of every kind, with either address.
+/// Expanded headers and tokens of every kind, with either address. Each record
+/// has at most one subject.
 fn expanded() -> Vec<u8> {
     let small = |address| with_address(0x15, address);
     let wide = |address| with_address(0x79, address);
@@ -200,20 +202,33 @@ fn expanded() -> Vec<u8> {
         nanoseconds: 999_999_999,
         ..wide(IPV6)
     };
-    let all: Vec<Vec<u8>> = [IPV4, IPV6]
-        .into_iter()
-        .flat_map(|address| expanded_tokens().map(|token| token_with(token, address.to_vec())))
-        .collect();
+    let each = |header| {
+        let bodies = expanded_bodies();
+        let records = bodies.iter().flat_map(|body| record_bytes(header, body));
+        records.collect::<Vec<u8>>()
+    };
     // The opaque holds a whole expanded record.
     let inside = record_bytes(&small(IPV4), b"");
     joined(&[
         file_a(),
-        record_bytes(&small(IPV4), &joined(&all)),
+        each(&small(IPV4)),
         record_bytes(&small(IPV6), &opaque(inside)),
         smallest(),
         record_bytes(&wide(IPV4), b""),
-        record_bytes(&latest, &joined(&all)),
+        each(&latest),
     ])
+}
+
+/// A body for each expanded subject with each address; behind it stand all the
+/// other expanded tokens.
+fn expanded_bodies() -> Vec<Vec<u8>> {
+    let [subject, process, wide, wide_process, in_addr] = expanded_tokens();
+    let either = |token| [IPV4, IPV6].map(|address| token_with(token, address.to_vec()));
+    let others = [process, wide_process, in_addr].map(either).concat();
+    let subjects = [subject, wide].map(either).concat().into_iter();
+    subjects
+        .map(|subject| joined(&[subject, joined(&others)]))
+        .collect()
 }
 
 /// The smallest expanded record, cut in its count, its type and its trailer.
@@ -287,6 +302,28 @@ fn bad_types() -> Vec<(&'static str, Vec<u8>)> {
         (
             "no13_token_page",
             joined(&[file_a(), raw_record(&HEADER, &between(short))]),
+        ),
+    ]
+}
+
+/// Refusal 14: two subjects of one kind with processes around them, in the
+/// second of three records, and a subject32 before a subject64.
+fn two_subjects() -> Vec<(&'static str, Vec<u8>)> {
+    let token = |fields| token_with(fields, Vec::new());
+    let small = token(WriteToken::Subject32(party(0, 0x7F00_0001)));
+    let wide = token(WriteToken::Subject64(party(1 << 40, 0x7F00_0001)));
+    let process = token(WriteToken::Process32(party(0, 0x7F00_0001)));
+    let twice = joined(&[process.clone(), booking_body(), process, small.clone()]);
+    let widths = joined(&[small, return32(), wide, return32()]);
+    let header = with_address(0x79, IPV6);
+    vec![
+        (
+            "no14_second_record",
+            joined(&[booking(), raw_record(&booking_header(), &twice), smallest()]),
+        ),
+        (
+            "no14_widths",
+            joined(&[file_a(), raw_record(&header, &widths)]),
         ),
     ]
 }
