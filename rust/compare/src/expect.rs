@@ -5,7 +5,7 @@ use reference as plain;
 use std::net::IpAddr;
 
 /// The reasons in the order of their numbers.
-pub const REASONS: [Reason; 12] = [
+pub const REASONS: [Reason; 13] = [
     Reason::Short,
     Reason::Place,
     Reason::NotAnItem,
@@ -18,6 +18,7 @@ pub const REASONS: [Reason; 12] = [
     Reason::NoRoom,
     Reason::TooLarge,
     Reason::AddressType,
+    Reason::SecondSubject,
 ];
 
 /// A refusal.

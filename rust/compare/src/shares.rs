@@ -24,9 +24,9 @@ pub const RECORDS: usize = 60_000;
 /// Trails cut at every byte.
 pub const EVERY_BYTE: usize = 150_000;
 /// Trails that grow in random steps.
-pub const RANDOM_STEPS: usize = 60_000;
+pub const RANDOM_STEPS: usize = 75_000;
 /// Reads at one place that wait.
-pub const WAITS: usize = 40_000;
+pub const WAITS: usize = 50_000;
 /// Records with two bytes for the version.
 pub const TWO_BYTES: usize = 200_000;
 /// Such records cut at every byte.
@@ -42,7 +42,7 @@ pub const FILLS: usize = 60_000;
 /// The same at each byte near a multiple of 64 records.
 pub const CUT_FILLS: usize = 60_000;
 /// The same behind which an item is refused.
-pub const REFUSED_FILLS: usize = 60_000;
+pub const REFUSED_FILLS: usize = 80_000;
 /// Fills from wild states.
 pub const WILD_FILLS: usize = 60_000;
 /// Records by their numbers.

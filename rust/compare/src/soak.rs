@@ -332,6 +332,16 @@ impl Soaked {
                 words_for_address(kind.1),
             )?;
         }
+        writeln!(f, "second subjects, by the kinds of both")?;
+        for (first, second) in SUBJECT_PAIRS {
+            let times = tally.pair_times(14, (first, second));
+            let behind = format_args!("behind {first:02X} {}", name_of(first));
+            show_one(f, times, second, behind)?;
+        }
+        for (number, words) in [(7, "past the body's end"), (13, "with a wrong type")] {
+            let times = tally.second_times(number);
+            writeln!(f, "{times:>12}  any {words}, which is told first")?;
+        }
         writeln!(f, "versions over 255 to be written, by what else is wrong")?;
         for kind in LARGE_VERSIONS {
             show_one(f, tally.version_times(kind), kind.0, words_beside(kind.1))?;

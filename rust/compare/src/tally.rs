@@ -2,9 +2,10 @@
 
 use crate::index::Indexed;
 use generator::{address_fault, body_address_fault, call_address_fault};
+use generator::{body_subjects, call_subjects, item_subjects};
 use generator::{large_version, spoilt_body, spoilt_call, spoilt_item, spoilt_token};
 use generator::{AddressFault, Beside, Ending, Spoilt, WriteArgs};
-use generator::{ENDINGS, LARGE_VERSIONS, TOKEN_NUMBERS};
+use generator::{ENDINGS, LARGE_VERSIONS, SUBJECT_PAIRS, TOKEN_NUMBERS};
 use reference::Refusal;
 use std::collections::BTreeMap;
 use std::fmt::Debug;
@@ -28,13 +29,14 @@ pub const EXPANDED_HEADERS: [u8; 2] = [0x15, 0x79];
 pub struct Tally {
     inputs: usize,
     ends: usize,
-    refusals: [usize; 14],
+    refusals: [usize; 15],
     kinds: [usize; 256],
     texts: BTreeMap<(u8, Spoilt), usize>,
     versions: BTreeMap<(u8, Beside), usize>,
     endings: BTreeMap<Ending, usize>,
     addresses: BTreeMap<(u8, usize), usize>,
     faults: BTreeMap<(u8, AddressFault), usize>,
+    subjects: BTreeMap<(u8, (u8, u8)), usize>,
     indexed: BTreeMap<Indexed, usize>,
 }
 
@@ -50,13 +52,14 @@ impl Tally {
         Tally {
             inputs: 0,
             ends: 0,
-            refusals: [0; 14],
+            refusals: [0; 15],
             kinds: [0; 256],
             texts: BTreeMap::new(),
             versions: BTreeMap::new(),
             endings: BTreeMap::new(),
             addresses: BTreeMap::new(),
             faults: BTreeMap::new(),
+            subjects: BTreeMap::new(),
             indexed: BTreeMap::new(),
         }
     }
@@ -79,12 +82,13 @@ impl Tally {
         }
     }
 
-    /// The same of the item at `start`; for 8, and where an address is why,
-    /// also what offends.
+    /// The same of the item at `start`; for 8, and where an address or a second
+    /// subject is why, also what offends.
     pub fn item_answer(&mut self, trail: &[u8], start: usize, refusal: Option<Refusal>) {
         self.answer(refusal);
         self.spoilt(refusal, |place| spoilt_item(trail, start, place));
         self.fault(refusal, |refusal| address_fault(trail, start, refusal));
+        self.second(refusal, |refusal| item_subjects(trail, start, refusal));
     }
 
     /// The same of a whole body.
@@ -92,6 +96,7 @@ impl Tally {
         self.answer(refusal);
         self.spoilt(refusal, |place| spoilt_body(body, place));
         self.fault(refusal, |refusal| body_address_fault(body, refusal));
+        self.second(refusal, |refusal| body_subjects(body, refusal));
     }
 
     /// The same of the token at `start`.
@@ -107,6 +112,7 @@ impl Tally {
         self.answer(refusal);
         self.spoilt(refusal, |place| spoilt_call(args, place));
         self.fault(refusal, |refusal| call_address_fault(args, refusal));
+        self.second(refusal, |refusal| call_subjects(args, refusal));
         if let Some(kind) = large_version(args, room) {
             *self.versions.entry(kind).or_insert(0) += 1;
         }
@@ -130,6 +136,16 @@ impl Tally {
     ) {
         if let Some(kind) = refusal.as_ref().and_then(told) {
             *self.faults.entry(kind).or_insert(0) += 1;
+        }
+    }
+
+    /// Counts the kinds of two subjects where a refusal is for the second.
+    fn second(&mut self, refusal: Option<Refusal>, told: impl Fn(&Refusal) -> Option<(u8, u8)>) {
+        let Some(refusal) = refusal else {
+            return;
+        };
+        if let Some(pair) = told(&refusal) {
+            *self.subjects.entry((refusal.number, pair)).or_insert(0) += 1;
         }
     }
 
@@ -170,6 +186,7 @@ impl Tally {
         add_counts(&mut self.endings, &other.endings);
         add_counts(&mut self.addresses, &other.addresses);
         add_counts(&mut self.faults, &other.faults);
+        add_counts(&mut self.subjects, &other.subjects);
         add_counts(&mut self.indexed, &other.indexed);
     }
 
@@ -222,11 +239,23 @@ impl Tally {
         self.faults.get(&kind).copied().unwrap_or(0)
     }
 
+    /// How often a second subject, of the kinds of this pair, was refused with
+    /// 7, 13 or 14.
+    pub fn pair_times(&self, number: u8, pair: (u8, u8)) -> usize {
+        self.subjects.get(&(number, pair)).copied().unwrap_or(0)
+    }
+
+    /// The same, whatever the kinds.
+    pub fn second_times(&self, number: u8) -> usize {
+        let pairs = SUBJECT_PAIRS.into_iter();
+        pairs.map(|pair| self.pair_times(number, pair)).sum()
+    }
+
     /// Prints the counters and asserts the share of inputs, and that each of
     /// these refusals, and an answer without one, came often.
     pub fn finish(&self, test: &str, share: usize, refusals: impl IntoIterator<Item = u8>) {
         println!(
-            "{test}: {} inputs, {} not refused, refusals 1 to 13: {:?}",
+            "{test}: {} inputs, {} not refused, refusals 1 to 14: {:?}",
             self.inputs,
             self.ends,
             &self.refusals[1..]
@@ -270,6 +299,11 @@ impl Tally {
     pub fn finish_fault_ways(&self, test: &str, ways: &[AddressFault]) {
         println!("{test}: addresses refused {}", shown(&self.faults));
         each_often(test, ways, |way| of_way(&self.faults, way));
+    }
+
+    /// Asserts that 14 came often for each pair of kinds of subjects.
+    pub fn finish_subjects(&self, test: &str) {
+        each_often(test, &SUBJECT_PAIRS, |pair| self.pair_times(14, pair));
     }
 
     /// Prints how often addresses of either length came in the headers or

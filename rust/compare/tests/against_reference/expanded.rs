@@ -73,17 +73,24 @@ fn token(number: u8, fixed: usize, kind: u32, address: &[u8]) -> Vec<u8> {
     token
 }
 
-/// A body of all expanded tokens with this address, another token between
-/// them.
-fn every_token(address: &[u8]) -> Vec<u8> {
+/// Bodies of all expanded tokens with this address but one of the subjects,
+/// another token between them.
+fn every_token(address: &[u8]) -> [Vec<u8>; 2] {
     let kind = address.len() as u32;
-    TOKENS
-        .into_iter()
-        .flat_map(|(number, fixed)| {
-            let expanded = token(number, fixed, kind, address);
-            [&expanded[..], b"\x2C\0\x16"].concat()
-        })
-        .collect()
+    [0x7A, 0x7C].map(|without| {
+        let tokens = TOKENS.into_iter().filter(|(number, _)| *number != without);
+        tokens
+            .flat_map(|(number, fixed)| {
+                let expanded = token(number, fixed, kind, address);
+                [&expanded[..], b"\x2C\0\x16"].concat()
+            })
+            .collect()
+    })
+}
+
+/// The same, each beside its address.
+fn with_every_token(address: &[u8]) -> [(&[u8], Vec<u8>); 2] {
+    every_token(address).map(|body| (address, body))
 }
 
 /// A file token, and a good record of each header and address, with bodies of
@@ -92,8 +99,9 @@ fn every_record() -> Vec<u8> {
     let mut trail = raw_file(5, 7, 2, b"a\0");
     for (number, width, _) in HEADERS {
         for address in ADDRESSES {
-            for body in [vec![], every_token(&IPV4), every_token(&IPV6)] {
-                trail.extend(record(number, width, address, &body));
+            trail.extend(record(number, width, address, b""));
+            for body in ADDRESSES.map(every_token).as_flattened() {
+                trail.extend(record(number, width, address, body));
             }
         }
     }
@@ -256,9 +264,9 @@ fn records_cut_at_each_byte() {
     let front = raw_file(5, 7, 2, b"a\0");
     for (number, width, _) in HEADERS {
         for kind in types() {
-            for address in ADDRESSES {
+            for (address, body) in ADDRESSES.into_iter().flat_map(with_every_token) {
                 let head = head(number, width, kind, address, 0);
-                let record = framed(&head, &every_token(address));
+                let record = framed(&head, &body);
                 let trail = [&front[..], &record].concat();
                 for cut in 1..record.len() {
                     let need = if cut < 5 { 5 } else { record.len() };
@@ -418,9 +426,11 @@ fn every_byte_of_an_address() {
                 let mut address = address.to_vec();
                 address[at] = byte;
                 for (number, width, _) in HEADERS {
-                    let record = record(number, width, &address, &every_token(&address));
-                    let found = told(&mut tally, &record, 0);
-                    assert_eq!(found, Ok((record.len(), address.clone())));
+                    for body in every_token(&address) {
+                        let record = record(number, width, &address, &body);
+                        let found = told(&mut tally, &record, 0);
+                        assert_eq!(found, Ok((record.len(), address.clone())));
+                    }
                 }
                 for (number, fixed) in TOKENS {
                     let body = token(number, fixed, address.len() as u32, &address);
@@ -434,7 +444,7 @@ fn every_byte_of_an_address() {
             }
         }
     }
-    assert_eq!(tally.inputs(), 256 * 20 * 7);
+    assert_eq!(tally.inputs(), 256 * 20 * (2 * 2 + 5));
     tally.finish_addresses("every byte", &EXPANDED_NUMBERS);
     tally.finish_addresses("every byte", &EXPANDED_HEADERS);
 }
@@ -450,7 +460,7 @@ fn trails_that_grow_and_steps_back() {
     }
     growing.finish();
     let (items, run) = reference::reading(&trail, State::default());
-    assert_eq!((run.refusal, items.len()), (None, 1 + 2 * 2 * 3));
+    assert_eq!((run.refusal, items.len()), (None, 1 + 2 * 2 * 5));
 
     same_newest(&trail);
     let places = items[1..].iter().rev().map(|(place, _)| *place);
@@ -477,11 +487,11 @@ fn lines_of_expanded_records() {
     let items = reference::reading(&trail, State::default()).0;
     let mut listing = "bsmlist\t1\nF\t0\t13\t5\t7\n".to_string();
     for (i, (place, item)) in items[1..].iter().enumerate() {
-        let tokens = if i % 3 == 0 { 0 } else { 10 };
+        let tokens = if i % 5 == 0 { 0 } else { 8 };
         let size = item.size();
         listing += &format!("R\t{place}\t{size}\t4660\t22136\t16909060\t2\t{tokens}\n");
     }
-    listing += "E\t12\t1\n";
+    listing += "E\t20\t1\n";
 
     let mut out = vec![0; listing.len()];
     let listed = bsm::list(&mut out, &trail, bsm::Cursor::First);

@@ -215,6 +215,7 @@ fn items_field_by_field() {
     tally.finish("items field by field", FACE / 2, READ_REFUSALS);
     tally.finish_texts("items field by field", &SPOILT_ITEMS);
     tally.finish_faults("items field by field", &ADDRESS_FAULTS);
+    tally.finish_subjects("items field by field");
     tally.finish_addresses("items field by field", &EXPANDED_HEADERS);
 }
 
@@ -284,11 +285,13 @@ fn tokens_field_by_field() {
                 }
             }
         }
-        let expected = raw_written(reference::walk_body(&body));
+        let walked = reference::walk_body(&body);
+        tally.body_answer(&body, walked.err());
         // SAFETY: as above.
-        assert_eq!(unsafe { bsm_walk_body(bytes, length) }, expected);
+        let found = unsafe { bsm_walk_body(bytes, length) };
+        assert_eq!(found, raw_written(walked));
     }
-    tally.finish("tokens field by field", FACE / 2, [6, 7, 8, 13]);
+    tally.finish("tokens field by field", FACE / 2, [6, 7, 8, 13, 14]);
     tally.finish_texts("tokens field by field", SPOILT_BODIES);
     tally.finish_faults("tokens field by field", BODY_ADDRESS_FAULTS);
     tally.finish_addresses("tokens field by field", &EXPANDED_NUMBERS);
@@ -396,6 +399,7 @@ fn constants_of_the_header() {
         ("NO_ROOM", Reason::NoRoom),
         ("TOO_LARGE", Reason::TooLarge),
         ("ADDRESS_TYPE", Reason::AddressType),
+        ("SECOND_SUBJECT", Reason::SecondSubject),
     ];
     let refusals = refusals.map(|(name, reason)| (name, reason.number().into()));
     assert_eq!(some("BSM_REFUSAL_"), refusals);

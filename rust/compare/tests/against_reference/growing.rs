@@ -39,6 +39,7 @@ fn random_steps() {
     tally.finish("random steps", RANDOM_STEPS, READ_REFUSALS);
     tally.finish_texts("random steps", &SPOILT_ITEMS);
     tally.finish_faults("random steps", &ADDRESS_FAULTS);
+    tally.finish_subjects("random steps");
 }
 
 #[test]
@@ -81,7 +82,7 @@ fn one_place_waits_at_most_twice() {
     }
     println!("waits 0, 1, 2: {waits:?}");
     assert!(waits.iter().all(|&times| times >= 1_000));
-    tally.finish("waits", WAITS, [1, 3, 4, 5, 6, 7, 8, 9, 13]);
+    tally.finish("waits", WAITS, [1, 3, 4, 5, 6, 7, 8, 9, 13, 14]);
     tally.finish_ways("waits", &READ_WAYS);
     tally.finish_fault_ways("waits", &READ_FAULTS);
     tally.finish_addresses("waits", &EXPANDED_HEADERS);

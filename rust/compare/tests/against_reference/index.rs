@@ -7,7 +7,7 @@ use generator::*;
 use reference::{Found, Item, State};
 
 /// The refusals of what stands at a place of a trail.
-const ITEM_REFUSALS: [u8; 9] = [1, 3, 4, 5, 6, 7, 8, 9, 13];
+const ITEM_REFUSALS: [u8; 10] = [1, 3, 4, 5, 6, 7, 8, 9, 13, 14];
 
 /// What comes where no state and no entry is refused.
 const WITHOUT_TWO: [Indexed; 5] = [
@@ -50,7 +50,7 @@ fn every_table_length_while_it_grows() {
             growing.grown(&mut tally, &trail[..cut]);
         }
     }
-    tally.finish("fills", FILLS, [1, 3, 4, 5, 6, 7, 8, 9, 10, 13]);
+    tally.finish("fills", FILLS, ITEM_REFUSALS.into_iter().chain([10]));
     tally.finish_indexed("fills", &[Indexed::Filled, Indexed::NoRoom]);
 }
 
@@ -91,10 +91,12 @@ fn refused_near_multiples() {
     let mut tally = Tally::new();
     while tally.inputs() < REFUSED_FILLS {
         for number in ITEM_REFUSALS {
-            let item = refused_item(&mut rng, number);
-            if item.len() > 150 {
-                continue;
-            }
+            let item = loop {
+                let item = refused_item(&mut rng, number);
+                if item.len() <= 150 {
+                    break item;
+                }
+            };
             let count = rng.pick(&[63, 64, 65, 127, 128, 129]);
             let trail = [many_records(&mut rng, count), item].concat();
             let mut growing = GrowingIndex::new();

@@ -16,6 +16,7 @@ mod places;
 mod program;
 mod soak;
 mod strings;
+mod subjects;
 mod texts;
 mod texts_cut;
 mod texts_written;

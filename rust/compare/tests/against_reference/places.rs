@@ -28,7 +28,7 @@ fn all_prefixes() {
             same_item(&mut Tally::new(), prefix, run.state.place);
         }
     }
-    tally.finish("prefixes", PREFIXES, [1, 3, 4, 5, 6, 7, 8, 9, 13]);
+    tally.finish("prefixes", PREFIXES, [1, 3, 4, 5, 6, 7, 8, 9, 13, 14]);
     tally.finish_texts("prefixes", &SPOILT_ITEMS);
     tally.finish_faults("prefixes", &ADDRESS_FAULTS);
 }

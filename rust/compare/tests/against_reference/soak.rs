@@ -8,9 +8,9 @@ use std::sync::atomic::{AtomicUsize, Ordering};
 #[test]
 fn a_few_seeds_meet_every_answer_and_kind() {
     let asked = AtomicUsize::new(0);
-    let enough = || asked.fetch_add(1, Ordering::Relaxed) >= 1_000;
+    let enough = || asked.fetch_add(1, Ordering::Relaxed) >= 1_500;
     let soaked = soak(901, 1, enough, compare_seed);
-    assert_eq!((soaked.seeds, soaked.differs), (1_000, None));
+    assert_eq!((soaked.seeds, soaked.differs), (1_500, None));
     assert!(soaked.tally.answers().0 > 100);
     for number in REASONS.map(|reason| reason.number()) {
         assert!(soaked.tally.refused_times(number) > 100, "{number}");
@@ -39,6 +39,17 @@ fn a_few_seeds_meet_every_answer_and_kind() {
         let line = format!("\n{times:>12}  {:02X} ", kind.0);
         assert!(shown.contains(&line), "{line}");
     }
+    for pair in SUBJECT_PAIRS {
+        let times = soaked.tally.pair_times(14, pair);
+        assert!(times > 100, "{pair:02X?} {times}");
+        let line = format!("\n{times:>12}  {:02X} ", pair.1);
+        assert!(shown.contains(&line), "{line}");
+    }
+    for number in [7, 13] {
+        let times = soaked.tally.second_times(number);
+        assert!(times > 100, "{number} {times}");
+        assert!(shown.contains(&format!("\n{times:>12}  ")), "{number}");
+    }
     for kind in LARGE_VERSIONS {
         let times = soaked.tally.version_times(kind);
         assert!(times > 100, "{kind:02X?} {times}");
@@ -58,7 +69,7 @@ fn a_few_seeds_meet_every_answer_and_kind() {
 
     // The same seeds give the same inputs.
     let mut again = compare::Tally::new();
-    (901..1_901).for_each(|seed| compare_seed(&mut again, seed));
+    (901..2_401).for_each(|seed| compare_seed(&mut again, seed));
     assert_eq!(again.inputs(), soaked.tally.inputs());
     assert_eq!(again.answers(), soaked.tally.answers());
 }

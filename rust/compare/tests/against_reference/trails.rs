@@ -24,6 +24,7 @@ fn mixed_trails() {
     tally.finish("mixed trails", MIXED, READ_REFUSALS);
     tally.finish_texts("mixed trails", &SPOILT_ITEMS);
     tally.finish_faults("mixed trails", &ADDRESS_FAULTS);
+    tally.finish_subjects("mixed trails");
 }
 
 #[test]
@@ -116,7 +117,7 @@ fn damaged_trails() {
         damage(&mut rng, &mut trail);
         same_reading(&mut tally, &trail, State::default());
     }
-    tally.finish("damaged trails", DAMAGED, [1, 3, 4, 5, 6, 7, 8, 9, 13]);
+    tally.finish("damaged trails", DAMAGED, [1, 3, 4, 5, 6, 7, 8, 9, 13, 14]);
     tally.finish_ways("damaged trails", &READ_WAYS);
 }
 
@@ -135,6 +136,7 @@ fn trails_aimed_at_each_refusal() {
     tally.finish("aimed trails", AIMED, READ_REFUSALS);
     tally.finish_texts("aimed trails", &SPOILT_ITEMS);
     tally.finish_faults("aimed trails", &ADDRESS_FAULTS);
+    tally.finish_subjects("aimed trails");
 }
 
 #[test]

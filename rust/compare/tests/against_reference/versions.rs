@@ -109,15 +109,17 @@ fn filled(size: usize) -> Vec<u8> {
     token
 }
 
-/// Bodies that are good or refused with 6, 7, 8 or 13, each small and too
+/// Bodies that are good or refused with 6, 7, 8, 13 or 14, each small and too
 /// large for a record.
 fn bodies() -> Vec<(Vec<u8>, Option<Refusal>)> {
+    let subjects = [&[0x24][..], &[0; 36]].concat().repeat(2);
     let ends = [
         (&b"\x2C\0\0"[..], 0, 0),
         (b"\0", 6, 0),
         (b"\x2C\0", 7, 0),
         (b"\x28\0\x01t", 8, 3),
         (b"\x7E\0\0\0\x06", 13, 0),
+        (&subjects, 14, 37),
     ];
     let mut all = Vec::new();
     for (end, number, at) in ends {
@@ -181,8 +183,8 @@ fn whole_order_of_a_record() {
     }
     let (none, refused) = tally.answers();
     println!("not refused {none}, refusals {refused:?}");
-    assert_eq!(tally.inputs(), (1 + 1 + 4 + 4) * 4 * 2 * 3 * 10 * 4);
-    for number in [4, 6, 7, 8, 9, 10, 11, 13] {
+    assert_eq!(tally.inputs(), (1 + 1 + 4 + 4) * 4 * 2 * 3 * 12 * 4);
+    for number in [4, 6, 7, 8, 9, 10, 11, 13, 14] {
         assert!(refused[number - 1] > 0, "{number}");
     }
     assert!(none > 0);
@@ -207,7 +209,7 @@ fn told(tally: &mut Tally, header: &Header<'_>, body: &[u8]) -> u8 {
             let inside = header_size(header.number)..record.len() - 7;
             match refusal.number {
                 9 => assert!(late && refusal.place == 0),
-                6..=8 | 13 => assert!(!late && inside.contains(&refusal.place)),
+                6..=8 | 13 | 14 => assert!(!late && inside.contains(&refusal.place)),
                 other => panic!("{other} for {}", show(&record)),
             }
             refusal.number

@@ -27,11 +27,12 @@ fn destinations_around_the_needed_size() {
             }
         }
     }
-    tally.finish("writers", WRITES, [4, 6, 7, 8, 9, 10, 11, 13]);
+    tally.finish("writers", WRITES, [4, 6, 7, 8, 9, 10, 11, 13, 14]);
     tally.finish_texts("writers", &SPOILT_CALLS);
     tally.finish_faults("writers", &CALL_ADDRESS_FAULTS);
     tally.finish_addresses("writers", &EXPANDED_NUMBERS);
     tally.finish_addresses("writers", &EXPANDED_HEADERS);
+    tally.finish_subjects("writers");
     tally.finish_versions("writers");
     tally.finish_kinds("writers");
 }
@@ -55,8 +56,9 @@ fn bodies_given_to_the_record_writers() {
             }
         }
     }
-    tally.finish("record writers", RECORDS, [6, 7, 8, 10, 13]);
+    tally.finish("record writers", RECORDS, [6, 7, 8, 10, 13, 14]);
     tally.finish_texts("record writers", SPOILT_BODIES);
     tally.finish_faults("record writers", BODY_ADDRESS_FAULTS);
+    tally.finish_subjects("record writers");
     tally.finish_addresses("record writers", &EXPANDED_HEADERS);
 }
