@@ -17,12 +17,13 @@
 extern "C" {
 #endif
 
-/* Refusals. The place that comes with one is the item's start for 1, 3, 4, 5 and 9, the token's for 6 and 7, the asked place for 2,
-   or the one that a table's entry has. For 13 it is the start of what has the address: the item's for a header, the token's for a
-   token. For 8 it is the byte that spoils the text: the first zero byte that is not the last of the bytes that the length counts,
-   or else the last of them, which is not zero; where the length is 0, or a file name's over 1024, the first byte of the length.
-   Places count from the start of the trail or body given. A writer gives place 0, but for a text or name with a zero byte (8, with
-   its place in what was given, unless a name is too long) and for a record's body, which it refuses as bsm_walk_body does. */
+/* Refusals. The place that comes with one is the item's start for 1, 3, 4, 5 and 9, the token's for 6, 7 and 14, the asked place
+   for 2, or the one that a table's entry has. For 13 it is the start of what has the address: the item's for a header, the token's
+   for a token. For 8 it is the byte that spoils the text: the first zero byte that is not the last of the bytes that the length
+   counts, or else the last of them, which is not zero; where the length is 0, or a file name's over 1024, the first byte of the
+   length. Places count from the start of the trail or body given. A writer gives place 0, but for a text or name with a zero byte
+   (8, with its place in what was given, unless a name is too long) and for a record's body, which it refuses as bsm_walk_body
+   does. */
 enum {
     BSM_REFUSAL_SHORT = 1,            /* `need` bytes must stand from the item's start on */
     BSM_REFUSAL_PLACE = 2,            /* place beyond the buffer, or totals above the place */
@@ -35,7 +36,8 @@ enum {
     BSM_REFUSAL_TIME_RANGE = 9,       /* microseconds or nanoseconds out of range */
     BSM_REFUSAL_NO_ROOM = 10,         /* the destination, or the table to be filled, is too small */
     BSM_REFUSAL_TOO_LARGE = 11,       /* a value is too large for its field; a record's version is one byte */
-    BSM_REFUSAL_ADDRESS_TYPE = 13     /* an address's type is neither 4 nor 16; a writer: an address of another length */
+    BSM_REFUSAL_ADDRESS_TYPE = 13,    /* an address's type is neither 4 nor 16; a writer: an address of another length */
+    BSM_REFUSAL_SECOND_SUBJECT = 14   /* a subject token behind another one in the same record, of whatever kinds they are */
 };
 
 /* Token numbers. */
@@ -248,6 +250,7 @@ enum { BSM_IN_ADDR_ADDRESS = 0 };
 enum { BSM_IPORT_PORT = 0 };
 enum { BSM_SEQ_SEQUENCE = 0 };
 
+/* The token at a place. What stands before it in the body does not count, so that 14 is never the answer. */
 bsm_token bsm_token_at(const uint8_t *body, size_t length, size_t place);
 
 /* Where the string of the path or text token at a place stands in the body, without its zero byte; 0 and 0 for anything else. */
@@ -261,7 +264,8 @@ typedef struct {
     uint64_t need;
 } bsm_written;
 
-/* How many tokens a body has, or the first refusal, with places counted from the body's start. */
+/* How many tokens a body has, or the first refusal, with places counted from the body's start. A body has one subject token at most:
+   the next one is 14, unless it is refused by itself. Process tokens may be as many as fit. */
 bsm_written bsm_walk_body(const uint8_t *body, size_t length);
 
 /* ---- writing: each writes at the start of dst, and answers how many bytes. Texts, names and paths are given without their zero

@@ -1,7 +1,7 @@
 /* Uses the library from C: writes every kind of token, a file token and records, reads them from both ends, finds them by their
-   numbers, lists them, and tries texts and types that are spoilt, versions and addresses of all sizes, destinations and tables that
-   are too small and buffers that are not there. What it expects is computed from what it wrote. Exit status 0 where every assertion
-   holds. */
+   numbers, lists them, and tries texts and types that are spoilt, records of two subjects, versions and addresses of all sizes,
+   destinations and tables that are too small and buffers that are not there. What it expects is computed from what it wrote. Exit
+   status 0 where every assertion holds. */
 #undef NDEBUG
 #include <assert.h>
 #include <stddef.h>
@@ -31,6 +31,13 @@ _Static_assert(offsetof(bsm_step, place) == sizeof(bsm_item) && offsetof(bsm_bef
 _Static_assert(offsetof(bsm_found, place) == sizeof(bsm_item), "behind the item");
 _Static_assert(offsetof(bsm_filled, count) == sizeof(bsm_outcome) && sizeof(bsm_filled) == 7 * sizeof(uint64_t), "behind the run");
 
+/* A token of each kind, the expanded ones with either address. They are no record's body: they have SUBJECTS subjects. */
+enum { EVERY = 30, SUBJECTS = 6, PROCESSES = 6 };
+static uint8_t every[1024];
+static size_t every_size;
+static bsm_part subjects[SUBJECTS], processes[PROCESSES];
+
+/* The body of the records: all of these but for the subjects, of which it has one. */
 static uint8_t body[1024];
 static size_t body_size, tokens;
 
@@ -47,54 +54,53 @@ static int accepted(bsm_written w, size_t size)
     return w.written == size && w.number == 0 && w.place == 0 && w.need == 0;
 }
 
-/* w wrote the token with this number at the body's end: `fixed` bytes, then `length` of its tail, then `behind` (a text's zero). */
+/* w wrote the token with this number behind all others: `fixed` bytes, then `length` of its tail, then `behind` (a text's zero). */
 static void token(bsm_written w, uint64_t number, size_t fixed, size_t length, size_t behind, uint64_t count,
     const uint64_t *values)
 {
     assert(accepted(w, fixed + length + behind));
-    bsm_token t = bsm_token_at(body, body_size + w.written, body_size);
+    bsm_token t = bsm_token_at(every, every_size + w.written, every_size);
     assert(t.kind == BSM_TOKEN && t.token == number && t.size == w.written && t.count == count);
-    assert(t.start == body_size + fixed && t.length == length);
+    assert(t.start == every_size + fixed && t.length == length);
     for (size_t i = 0; i < 10; i++)
         assert(t.values[i] == values[i]);
     assert(t.number == 0 && t.place == 0 && t.need == 0);
-    body_size += w.written;
-    tokens++;
+    every_size += w.written;
 }
 
 static void write_texts(void)
 {
     const uint32_t groups[] = {10, 20, UINT32_MAX};
-    token(bsm_write_path(REST(body, body_size), TEXT("/etc/passwd")), BSM_ID_PATH, 3, 11, 1, 12, VALUES(0));
-    token(bsm_write_text(REST(body, body_size), TEXT("")), BSM_ID_TEXT, 3, 0, 1, 1, VALUES(0));
-    token(bsm_write_opaque(REST(body, body_size), TEXT("\0\1\2")), BSM_ID_OPAQUE, 3, 3, 0, 3, VALUES(0));
-    token(bsm_write_arg32(REST(body, body_size), 1, 700, TEXT("fd")), BSM_ID_ARG32, 8, 2, 1, 3,
+    token(bsm_write_path(REST(every, every_size), TEXT("/etc/passwd")), BSM_ID_PATH, 3, 11, 1, 12, VALUES(0));
+    token(bsm_write_text(REST(every, every_size), TEXT("")), BSM_ID_TEXT, 3, 0, 1, 1, VALUES(0));
+    token(bsm_write_opaque(REST(every, every_size), TEXT("\0\1\2")), BSM_ID_OPAQUE, 3, 3, 0, 3, VALUES(0));
+    token(bsm_write_arg32(REST(every, every_size), 1, 700, TEXT("fd")), BSM_ID_ARG32, 8, 2, 1, 3,
         VALUES([BSM_ARG_ARGUMENT] = 1, [BSM_ARG_VALUE] = 700));
-    token(bsm_write_arg64(REST(body, body_size), 2, UINT64_MAX, TEXT("length")), BSM_ID_ARG64, 12, 6, 1, 7,
+    token(bsm_write_arg64(REST(every, every_size), 2, UINT64_MAX, TEXT("length")), BSM_ID_ARG64, 12, 6, 1, 7,
         VALUES([BSM_ARG_ARGUMENT] = 2, [BSM_ARG_VALUE] = UINT64_MAX));
-    token(bsm_write_newgroups(REST(body, body_size), groups, 3), BSM_ID_NEWGROUPS, 3, sizeof groups, 0, 3, VALUES(0));
-    token(bsm_write_exec_args(REST(body, body_size), 2, TEXT("ls\0-l\0")), BSM_ID_EXEC_ARGS, 5, 6, 0, 2, VALUES(0));
-    token(bsm_write_exec_env(REST(body, body_size), 0, TEXT("")), BSM_ID_EXEC_ENV, 5, 0, 0, 0, VALUES(0));
+    token(bsm_write_newgroups(REST(every, every_size), groups, 3), BSM_ID_NEWGROUPS, 3, sizeof groups, 0, 3, VALUES(0));
+    token(bsm_write_exec_args(REST(every, every_size), 2, TEXT("ls\0-l\0")), BSM_ID_EXEC_ARGS, 5, 6, 0, 2, VALUES(0));
+    token(bsm_write_exec_env(REST(every, every_size), 0, TEXT("")), BSM_ID_EXEC_ENV, 5, 0, 0, 0, VALUES(0));
 }
 
 static void write_values(void)
 {
-    token(bsm_write_return32(REST(body, body_size), 255, 5), BSM_ID_RETURN32, 6, 0, 0, 0,
+    token(bsm_write_return32(REST(every, every_size), 255, 5), BSM_ID_RETURN32, 6, 0, 0, 0,
         VALUES([BSM_RETURN_ERROR] = 255, [BSM_RETURN_VALUE] = 5));
-    token(bsm_write_return64(REST(body, body_size), 0, UINT64_MAX), BSM_ID_RETURN64, 10, 0, 0, 0,
+    token(bsm_write_return64(REST(every, every_size), 0, UINT64_MAX), BSM_ID_RETURN64, 10, 0, 0, 0,
         VALUES([BSM_RETURN_ERROR] = 0, [BSM_RETURN_VALUE] = UINT64_MAX));
-    token(bsm_write_in_addr(REST(body, body_size), 0x7F000001), BSM_ID_IN_ADDR, 5, 0, 0, 0,
+    token(bsm_write_in_addr(REST(every, every_size), 0x7F000001), BSM_ID_IN_ADDR, 5, 0, 0, 0,
         VALUES([BSM_IN_ADDR_ADDRESS] = 0x7F000001));
-    token(bsm_write_ip(REST(body, body_size), 69, 1, 60000, 2, 3, 64, 6, 65535, 4, UINT32_MAX), BSM_ID_IP, 21, 0, 0, 0,
+    token(bsm_write_ip(REST(every, every_size), 69, 1, 60000, 2, 3, 64, 6, 65535, 4, UINT32_MAX), BSM_ID_IP, 21, 0, 0, 0,
         VALUES([BSM_IP_VERSION] = 69, [BSM_IP_SERVICE] = 1, [BSM_IP_LENGTH] = 60000, [BSM_IP_ID] = 2, [BSM_IP_OFFSET] = 3,
             [BSM_IP_TTL] = 64, [BSM_IP_PROTOCOL] = 6, [BSM_IP_CHECKSUM] = 65535, [BSM_IP_SOURCE] = 4,
             [BSM_IP_DESTINATION] = UINT32_MAX));
-    token(bsm_write_iport(REST(body, body_size), 8080), BSM_ID_IPORT, 3, 0, 0, 0, VALUES([BSM_IPORT_PORT] = 8080));
-    token(bsm_write_seq(REST(body, body_size), 9), BSM_ID_SEQ, 5, 0, 0, 0, VALUES([BSM_SEQ_SEQUENCE] = 9));
-    token(bsm_write_ipc_perm(REST(body, body_size), 1, 2, 3, 4, 5, 6, 7), BSM_ID_IPC_PERM, 29, 0, 0, 0,
+    token(bsm_write_iport(REST(every, every_size), 8080), BSM_ID_IPORT, 3, 0, 0, 0, VALUES([BSM_IPORT_PORT] = 8080));
+    token(bsm_write_seq(REST(every, every_size), 9), BSM_ID_SEQ, 5, 0, 0, 0, VALUES([BSM_SEQ_SEQUENCE] = 9));
+    token(bsm_write_ipc_perm(REST(every, every_size), 1, 2, 3, 4, 5, 6, 7), BSM_ID_IPC_PERM, 29, 0, 0, 0,
         VALUES([BSM_IPC_USER] = 1, [BSM_IPC_GROUP] = 2, [BSM_IPC_CREATOR_USER] = 3, [BSM_IPC_CREATOR_GROUP] = 4,
             [BSM_IPC_MODE] = 5, [BSM_IPC_SEQUENCE] = 6, [BSM_IPC_KEY] = 7));
-    token(bsm_write_exit(REST(body, body_size), 3, 4), BSM_ID_EXIT, 9, 0, 0, 0,
+    token(bsm_write_exit(REST(every, every_size), 3, 4), BSM_ID_EXIT, 9, 0, 0, 0,
         VALUES([BSM_EXIT_STATUS] = 3, [BSM_EXIT_VALUE] = 4));
 }
 
@@ -106,38 +112,78 @@ static void write_values(void)
 static void write_parties(void)
 {
     const uint64_t wide = (uint64_t)1 << 40;
-    token(bsm_write_subject32(REST(body, body_size), 1, 2, 3, 4, 5, 6, 7, 8, 9), BSM_ID_SUBJECT32, 37, 0, 0, 0, PARTY(8, 9));
-    token(bsm_write_process32(REST(body, body_size), 1, 2, 3, 4, 5, 6, 7, 8, 9), BSM_ID_PROCESS32, 37, 0, 0, 0, PARTY(8, 9));
-    token(bsm_write_subject64(REST(body, body_size), 1, 2, 3, 4, 5, 6, 7, wide, 9), BSM_ID_SUBJECT64, 41, 0, 0, 0, PARTY(wide, 9));
-    token(bsm_write_process64(REST(body, body_size), 1, 2, 3, 4, 5, 6, 7, wide, 9), BSM_ID_PROCESS64, 41, 0, 0, 0, PARTY(wide, 9));
+    token(bsm_write_subject32(REST(every, every_size), 1, 2, 3, 4, 5, 6, 7, 8, 9), BSM_ID_SUBJECT32, 37, 0, 0, 0, PARTY(8, 9));
+    token(bsm_write_process32(REST(every, every_size), 1, 2, 3, 4, 5, 6, 7, 8, 9), BSM_ID_PROCESS32, 37, 0, 0, 0, PARTY(8, 9));
+    token(bsm_write_subject64(REST(every, every_size), 1, 2, 3, 4, 5, 6, 7, wide, 9), BSM_ID_SUBJECT64, 41, 0, 0, 0, PARTY(wide, 9));
+    token(bsm_write_process64(REST(every, every_size), 1, 2, 3, 4, 5, 6, 7, wide, 9), BSM_ID_PROCESS64, 41, 0, 0, 0, PARTY(wide, 9));
 }
 
 /* The expanded tokens: the address is their tail, its length their type. */
 static void write_expanded(const uint8_t *address, size_t n)
 {
     const uint64_t wide = (uint64_t)1 << 40;
-    const size_t first = body_size;
-    token(bsm_write_subject32_ex(REST(body, body_size), 1, 2, 3, 4, 5, 6, 7, 8, address, n), BSM_ID_SUBJECT32_EX, 37, n, 0, n,
+    const size_t first = every_size;
+    token(bsm_write_subject32_ex(REST(every, every_size), 1, 2, 3, 4, 5, 6, 7, 8, address, n), BSM_ID_SUBJECT32_EX, 37, n, 0, n,
         PARTY(8, 0));
-    token(bsm_write_process32_ex(REST(body, body_size), 1, 2, 3, 4, 5, 6, 7, 8, address, n), BSM_ID_PROCESS32_EX, 37, n, 0, n,
+    token(bsm_write_process32_ex(REST(every, every_size), 1, 2, 3, 4, 5, 6, 7, 8, address, n), BSM_ID_PROCESS32_EX, 37, n, 0, n,
         PARTY(8, 0));
-    token(bsm_write_subject64_ex(REST(body, body_size), 1, 2, 3, 4, 5, 6, 7, wide, address, n), BSM_ID_SUBJECT64_EX, 41, n, 0, n,
+    token(bsm_write_subject64_ex(REST(every, every_size), 1, 2, 3, 4, 5, 6, 7, wide, address, n), BSM_ID_SUBJECT64_EX, 41, n, 0, n,
         PARTY(wide, 0));
-    token(bsm_write_process64_ex(REST(body, body_size), 1, 2, 3, 4, 5, 6, 7, wide, address, n), BSM_ID_PROCESS64_EX, 41, n, 0, n,
+    token(bsm_write_process64_ex(REST(every, every_size), 1, 2, 3, 4, 5, 6, 7, wide, address, n), BSM_ID_PROCESS64_EX, 41, n, 0, n,
         PARTY(wide, 0));
-    token(bsm_write_in_addr_ex(REST(body, body_size), address, n), BSM_ID_IN_ADDR_EX, 5, n, 0, n, VALUES(0));
+    token(bsm_write_in_addr_ex(REST(every, every_size), address, n), BSM_ID_IN_ADDR_EX, 5, n, 0, n, VALUES(0));
     bsm_token t;
-    for (size_t place = first; place < body_size; place += t.size) {
-        t = bsm_token_at(body, body_size, place);
-        assert(memcmp(body + t.start, address, n) == 0 && t.start + t.length == place + t.size);
-        assert(memcmp(body + t.start - TYPE, (const uint8_t[]){0, 0, 0, (uint8_t)n}, TYPE) == 0);
+    for (size_t place = first; place < every_size; place += t.size) {
+        t = bsm_token_at(every, every_size, place);
+        assert(memcmp(every + t.start, address, n) == 0 && t.start + t.length == place + t.size);
+        assert(memcmp(every + t.start - TYPE, (const uint8_t[]){0, 0, 0, (uint8_t)n}, TYPE) == 0);
     }
+}
+
+static int is_subject(uint64_t number)
+{
+    return number == BSM_ID_SUBJECT32 || number == BSM_ID_SUBJECT64 || number == BSM_ID_SUBJECT32_EX || number == BSM_ID_SUBJECT64_EX;
+}
+
+static int is_process(uint64_t number)
+{
+    return number == BSM_ID_PROCESS32 || number == BSM_ID_PROCESS64 || number == BSM_ID_PROCESS32_EX || number == BSM_ID_PROCESS64_EX;
+}
+
+/* Where the subjects and the processes stand; all tokens are good, but no body has them all. */
+static void find_parties(void)
+{
+    size_t all = 0, subject = 0, process = 0;
+    bsm_token t;
+    for (size_t place = 0; (t = bsm_token_at(every, every_size, place)).kind == BSM_TOKEN; place += t.size, all++) {
+        if (is_subject(t.token))
+            subjects[subject++] = (bsm_part){place, t.size};
+        if (is_process(t.token))
+            processes[process++] = (bsm_part){place, t.size};
+    }
+    assert(t.kind == BSM_NO_TOKEN && all == EVERY && subject == SUBJECTS && process == PROCESSES);
+    assert(refused(bsm_walk_body(every, every_size), 14, subjects[1].start));
+}
+
+/* Makes the body with this one of the subjects. */
+static void take_subject(size_t kept)
+{
+    body_size = tokens = 0;
+    bsm_token t;
+    for (size_t place = 0; (t = bsm_token_at(every, every_size, place)).kind == BSM_TOKEN; place += t.size) {
+        if (is_subject(t.token) && place != subjects[kept].start)
+            continue;
+        memcpy(body + body_size, every + place, t.size);
+        body_size += t.size;
+        tokens++;
+    }
+    assert(tokens == EVERY - SUBJECTS + 1);
 }
 
 /* The body as a whole, the strings of its first two tokens, its end, and places that are refused. */
 static void read_body(void)
 {
-    assert(tokens == 30 && accepted(bsm_walk_body(body, body_size), tokens));
+    assert(accepted(bsm_walk_body(body, body_size), tokens));
     bsm_part path = bsm_text_at(body, body_size, 0);
     assert(path.start == 3 && path.length == 11 && memcmp(body + path.start, "/etc/passwd", 11) == 0);
     bsm_part empty = bsm_text_at(body, body_size, 15);
@@ -737,8 +783,9 @@ static void least_expanded(record_ex_writer *write, size_t least)
     refuses(t, n, item, item + 4, (uint8_t)(least + TYPE + sizeof ipv4 - 1), BSM_REFUSAL_RECORD_LENGTH, item);
 }
 
-/* Another type in each expanded token of the body, which is 13 at the token in whatever reads it; and 7 up to the address's end. */
-static void types_of_tokens(void)
+/* Another type in each expanded token of the body, which is 13 at the token in whatever reads it; and 7 up to the address's end.
+   Answers how many such tokens there are. */
+static size_t types_of_tokens(void)
 {
     uint8_t b[1024], d[2048];
     memcpy(b, body, body_size);
@@ -763,7 +810,7 @@ static void types_of_tokens(void)
             assert(refused(bsm_walk_body(b, end), 7, place));
         expanded++;
     }
-    assert(expanded == 10);
+    return expanded;
 }
 
 /* Addresses of every length: 13 before all else, and nothing is written; 4 and 16 are taken. */
@@ -831,6 +878,163 @@ static void order_of_versions(record_writer *write)
     assert(memcmp(d, before, sizeof d) == 0);
 }
 
+/* The writers of records with each header. */
+static record_writer *const writers[] = {bsm_write_record32, bsm_write_record64, write_ex32, write_ex64};
+enum { WRITERS = sizeof writers / sizeof *writers };
+
+/* Adds a token of those that were written behind n bytes, and answers how many there are then. */
+static size_t add(uint8_t *b, size_t n, bsm_part token)
+{
+    memcpy(b + n, every + token.start, token.length);
+    return n + token.length;
+}
+
+/* No walk, and no writer with room or without, takes the body; nothing is written. */
+static void refuses_body(const uint8_t *b, size_t n, uint64_t number, uint64_t place)
+{
+    uint8_t d[512], before[sizeof d];
+    memset(d, 0xA5, sizeof d);
+    memcpy(before, d, sizeof d);
+    assert(refused(bsm_walk_body(b, n), number, place));
+    for (size_t w = 0; w < WRITERS; w++)
+        for (size_t room = 0; room <= sizeof d; room += sizeof d)
+            assert(refused(writers[w](d, room, 11, 72, 0, 1, 2, b, n), number, place));
+    assert(memcmp(d, before, sizeof d) == 0);
+}
+
+/* The process token that has the layout of a subject. */
+static uint8_t process_like(uint8_t subject)
+{
+    switch (subject) {
+    case BSM_ID_SUBJECT32:
+        return BSM_ID_PROCESS32;
+    case BSM_ID_SUBJECT64:
+        return BSM_ID_PROCESS64;
+    case BSM_ID_SUBJECT32_EX:
+        return BSM_ID_PROCESS32_EX;
+    default:
+        assert(subject == BSM_ID_SUBJECT64_EX);
+        return BSM_ID_PROCESS64_EX;
+    }
+}
+
+/* A body whose process at a place becomes a second subject, in a record between a file token and another record. */
+static void read_second_subject(record_writer *write, const uint8_t *b, size_t n, size_t at, uint8_t subject)
+{
+    uint8_t t[512];
+    const size_t item = bsm_write_file(REST(t, 0), 5, 7, TEXT("a")).written;
+    const size_t end = item + write(REST(t, item), 11, 72, 0, 1, 2, b, n).written;
+    const size_t size = end + bsm_write_record32(REST(t, end), 11, 73, 0, 1, 2, NULL, 0).written;
+    const size_t place = bsm_body_at(t, size, item).start + at;
+    assert(end > item && t[place] == process_like(subject) && record_at(bsm_record_before(t, size, end), t, size, item));
+    refuses(t, end, item, place, subject, BSM_REFUSAL_SECOND_SUBJECT, place);
+    refuses(t, size, item, place, subject, BSM_REFUSAL_SECOND_SUBJECT, place);
+
+    /* Short until the record is whole, and refused ever after. */
+    t[place] = subject;
+    for (size_t length = 0; length <= size; length++) {
+        const bsm_outcome o = bsm_run(t, length, 0, 0, 0);
+        if (length < end)
+            assert(o.number == (length == 0 || length == item ? 0 : BSM_REFUSAL_SHORT) && o.records == 0);
+        else
+            assert(o.number == 14 && o.at == place && o.need == 0 && o.place == item && o.records == 0 && o.files == 1);
+    }
+
+    /* From the end, by its number, and in the listing. */
+    assert(record_at(bsm_record_before(t, size, size), t, size, end) && boundary(bsm_record_before(t, size, end), end, 0));
+    uint64_t table[] = {UINT64_MAX};
+    bsm_filled f = bsm_fill_index(t, size, 0, 0, 0, table, 1);
+    assert(f.count == 0 && f.run.number == 14 && f.run.at == place && f.run.place == item && table[0] == UINT64_MAX);
+    assert(is_none(bsm_find_record(t, size, table, 1, f.count, 0), 14, place, 0));
+    uint8_t line[BSM_LINE_MAX];
+    char last[BSM_LINE_MAX];
+    const size_t written = (size_t)snprintf(last, sizeof last, "X\t14\t%zu\t0\n", place);
+    assert(refused(bsm_item_line(REST(line, 0), t, size, item), 14, place));
+    assert(accepted(bsm_last_line(REST(line, 0), t, size, 0, 0, 0), written) && memcmp(line, last, written) == 0);
+}
+
+/* Two subjects with other tokens around them: 14 at the second, after its own 7 and 13, before what stands behind it. */
+static void two_subjects(bsm_part first, bsm_part second)
+{
+    uint8_t b[256];
+    size_t n = bsm_write_iport(REST(b, 0), 22).written;
+    n = add(b, n, first);
+    const size_t at = add(b, n, processes[0]), end = add(b, at, second), behind = add(b, end, first);
+    n = behind + bsm_write_text(REST(b, behind), TEXT("4711")).written;
+    const uint8_t subject = b[at];
+    assert(is_subject(subject));
+
+    /* The second, whatever comes behind it: another subject, a token that is none, or nothing. */
+    refuses_body(b, n, BSM_REFUSAL_SECOND_SUBJECT, at);
+    refuses_body(b, behind, BSM_REFUSAL_SECOND_SUBJECT, at);
+    refuses_body(b, end, BSM_REFUSAL_SECOND_SUBJECT, at);
+    b[end] = 0;
+    refuses_body(b, n, BSM_REFUSAL_SECOND_SUBJECT, at);
+    refuses_body(b, end + 1, BSM_REFUSAL_SECOND_SUBJECT, at);
+    assert(accepted(bsm_walk_body(b, at), 3));
+
+    /* What refuses it by itself, or a token before it, is told first. */
+    for (size_t cut = at + 1; cut < end; cut++)
+        refuses_body(b, cut, BSM_REFUSAL_PAST_END, at);
+    const bsm_token alone = bsm_token_at(b, n, at);
+    assert(alone.kind == BSM_TOKEN && alone.token == subject && alone.size == end - at && alone.number == 0);
+    if (alone.length) {
+        uint8_t *type = b + alone.start - 1;
+        *type = 6;
+        const bsm_token spoilt = bsm_token_at(b, n, at);
+        assert(spoilt.kind == BSM_TOKEN_REFUSED && spoilt.number == BSM_REFUSAL_ADDRESS_TYPE && spoilt.place == at);
+        refuses_body(b, n, BSM_REFUSAL_ADDRESS_TYPE, at);
+        *type = (uint8_t)alone.length;
+    }
+    b[0] = 0;
+    refuses_body(b, n, BSM_REFUSAL_NOT_A_BODY_TOKEN, 0);
+    b[0] = BSM_ID_IPORT;
+
+    /* With a process in its place, and no third, the body is good. */
+    b[at] = process_like(subject);
+    n = end + bsm_write_text(REST(b, end), TEXT("4711")).written;
+    assert(accepted(bsm_walk_body(b, n), 5));
+    for (size_t w = 0; w < WRITERS; w++)
+        read_second_subject(writers[w], b, n, at, subject);
+}
+
+/* A subject at each place among processes of all kinds. */
+static void subject_among_processes(bsm_part subject)
+{
+    for (size_t before = 0; before <= PROCESSES; before++) {
+        uint8_t b[512], t[1024];
+        size_t n = 0;
+        for (size_t p = 0; p <= PROCESSES; p++) {
+            if (p == before)
+                n = add(b, n, subject);
+            if (p < PROCESSES)
+                n = add(b, n, processes[p]);
+        }
+        assert(accepted(bsm_walk_body(b, n), PROCESSES + 1));
+        for (size_t w = 0; w < WRITERS; w++) {
+            const bsm_written r = writers[w](REST(t, 0), 11, 72, 0, 1, 2, b, n);
+            const bsm_item i = bsm_item_at(t, r.written, 0);
+            assert(r.number == 0 && i.kind == BSM_RECORD && i.tokens == PROCESSES + 1 && memcmp(t + i.start, b, n) == 0);
+        }
+    }
+}
+
+/* Every ordered pair of subjects: four kinds, the expanded ones with either address. Of a record to be written, the header's refusals
+   come first. */
+static void second_subjects(void)
+{
+    for (size_t w = 0; w < WRITERS; w++) {
+        assert(refused(writers[w](NULL, 0, 256, 0, 0, 0, 0, every, every_size), BSM_REFUSAL_TOO_LARGE, 0));
+        assert(refused(writers[w](NULL, 0, 255, 0, 0, 0, 1000000000, every, every_size), BSM_REFUSAL_TIME_RANGE, 0));
+        assert(refused(writers[w](NULL, 0, 255, 0, 0, 0, 0, every, every_size), BSM_REFUSAL_SECOND_SUBJECT, subjects[1].start));
+    }
+    for (size_t first = 0; first < SUBJECTS; first++) {
+        for (size_t second = 0; second < SUBJECTS; second++)
+            two_subjects(subjects[first], subjects[second]);
+        subject_among_processes(subjects[first]);
+    }
+}
+
 /* Each refusal, by its name. */
 static void name_refusals(void)
 {
@@ -852,6 +1056,7 @@ static void name_refusals(void)
     assert(bsm_write_record64(d, room, 256, 0, 0, 0, 0, NULL, 0).number == BSM_REFUSAL_TOO_LARGE);
     assert(bsm_write_in_addr_ex(d, room, ipv6, 6).number == BSM_REFUSAL_ADDRESS_TYPE);
     assert(bsm_walk_body(TEXT("\x7e\0\0\0\6")).number == BSM_REFUSAL_ADDRESS_TYPE);
+    assert(bsm_walk_body(every, every_size).number == BSM_REFUSAL_SECOND_SUBJECT);
 }
 
 /* A null pointer with length 0 stands for nothing, in every parameter of every function. */
@@ -1000,13 +1205,20 @@ int main(void)
     write_parties();
     write_expanded(ipv4, sizeof ipv4);
     write_expanded(ipv6, sizeof ipv6);
-    read_body();
-    write_trail();
-    read_items();
-    read_trail();
-    read_back();
+    find_parties();
+    size_t expanded = 0;
+    for (size_t kept = 0; kept < SUBJECTS; kept++) {
+        take_subject(kept);
+        read_body();
+        write_trail();
+        read_items();
+        read_trail();
+        read_back();
+        list_trail();
+        expanded += types_of_tokens();
+    }
+    assert(expanded == SUBJECTS * 6 + 4); /* four subjects are expanded, and six other tokens */
     index_trail();
-    list_trail();
     list_no_line();
     line_of_no_item();
     spoil_name();
@@ -1020,7 +1232,6 @@ int main(void)
     read_expanded(bsm_write_record64_ex, BSM_ID_HEADER64_EX, LEAST64, ipv6, sizeof ipv6);
     least_expanded(bsm_write_record32_ex, LEAST32);
     least_expanded(bsm_write_record64_ex, LEAST64);
-    types_of_tokens();
     lengths_of_addresses();
     write_versions(bsm_write_record32, LEAST32);
     write_versions(bsm_write_record64, LEAST64);
@@ -1030,6 +1241,7 @@ int main(void)
     order_of_versions(bsm_write_record64);
     order_of_versions(write_ex32);
     order_of_versions(write_ex64);
+    second_subjects();
     name_refusals();
     read_nothing();
     write_into_nothing();
