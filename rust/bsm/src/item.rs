@@ -116,7 +116,7 @@ pub enum Item<'a> {
         /// [`address_at`].
         header: Header,
         /// What stands between header and trailer; see
-        /// [`tokens`](crate::tokens).
+        /// [`tokens`](crate::tokens). One of its tokens at most is a subject.
         body: &'a [u8],
         /// How many tokens the body has.
         tokens: usize,

@@ -55,10 +55,15 @@ pub enum Reason {
     /// [`write_record`](crate::write_record) for an expanded header, to which
     /// no address is given.
     AddressType = 13,
+    /// 14: a subject token in a record that has one already, of whatever kinds
+    /// the two are; [`Refusal::place`] is the second one's start. Process
+    /// tokens do not count. It comes where a record or a whole body is read or
+    /// written, not where one token is.
+    SecondSubject = 14,
 }
 
 impl Reason {
-    /// The refusal's number, 1 to 11 or 13.
+    /// The refusal's number, 1 to 11, 13 or 14.
     #[inline]
     pub const fn number(self) -> u8 {
         self as u8
@@ -80,6 +85,7 @@ impl Reason {
             10 => Reason::NoRoom,
             11 => Reason::TooLarge,
             13 => Reason::AddressType,
+            14 => Reason::SecondSubject,
             _ => unfit("refusal", number),
         }
     }
@@ -100,6 +106,7 @@ impl fmt::Display for Reason {
             Reason::NoRoom => "destination too small",
             Reason::TooLarge => "value too large for its field",
             Reason::AddressType => "address type neither 4 nor 16",
+            Reason::SecondSubject => "second subject token in one record",
         })
     }
 }

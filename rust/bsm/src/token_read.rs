@@ -20,6 +20,9 @@ pub struct TokenAt<'a> {
 }
 
 /// The token at a place of a body, or nothing where the body ends there.
+/// What stands before it does not count:
+/// [`Reason::SecondSubject`](crate::Reason::SecondSubject) is told by
+/// [`walk_body`].
 ///
 /// ```
 /// use bsm::{token_at, Token};
@@ -74,14 +77,26 @@ pub fn token_address_at(body: &[u8], place: usize) -> Option<IpAddr> {
 }
 
 /// How many tokens a body has, or the first refusal in it, with places
-/// counted from the body's start.
+/// counted from the body's start. A body has one subject token at most: the
+/// next one is refused, if not for itself then with
+/// [`Reason::SecondSubject`](crate::Reason::SecondSubject).
 ///
 /// ```
-/// use bsm::{walk_body, Reason};
+/// use bsm::{tokens, walk_body, Reason};
 ///
 /// // A port, and a text of three bytes whose last one is not zero.
 /// let refused = walk_body(b"\x2c\0\x16\x28\0\x03abc").unwrap_err();
 /// assert_eq!((refused.reason, refused.place), (Reason::BadText, 8));
+///
+/// // Two subjects, each of which is good by itself.
+/// let mut body = [0; 2 * 37];
+/// (body[0], body[37]) = (0x24, 0x24);
+/// let refused = walk_body(&body).unwrap_err();
+/// assert_eq!((refused.reason, refused.place), (Reason::SecondSubject, 37));
+/// assert!(tokens(&body).all(|token| token.is_ok()));
+/// // A process may stand beside a subject.
+/// body[37] = 0x26;
+/// assert_eq!(walk_body(&body), Ok(2));
 /// ```
 #[inline]
 pub fn walk_body(body: &[u8]) -> Result<usize, Refusal> {
@@ -89,8 +104,8 @@ pub fn walk_body(body: &[u8]) -> Result<usize, Refusal> {
     written(unsafe { sys::bsm_walk_body(body.as_ptr(), body.len()) })
 }
 
-/// The tokens of a body. The first refusal comes as an error and is the
-/// last; the body of an accepted record has none.
+/// The tokens of a body, each as [`token_at`] reads it. The first refusal
+/// comes as an error and is the last; the body of an accepted record has none.
 ///
 /// ```
 /// use bsm::{tokens, Token};

@@ -50,10 +50,10 @@ mod tests {
 
     #[test]
     fn refusals() {
-        for number in (1..=11).chain([13]) {
+        for number in (1..=11).chain([13, 14]) {
             assert_eq!(u64::from(Reason::of(number).number()), number);
         }
-        for number in [0, 12, 14, 15, 16, 17].into_iter().chain(NEVER) {
+        for number in [0, 12, 15, 16, 17].into_iter().chain(NEVER) {
             stops("refusal", number, || Reason::of(number));
             stops("refusal", number, || Refusal::of(number, 0, 0));
             if number != 0 {

@@ -206,8 +206,8 @@ pub fn write_file(
 /// [`write_record_ex`] is given
 /// ([`Reason::AddressType`](crate::Reason::AddressType)), more than 65,535
 /// bytes in all, a version over 255 or times too large for a header32,
-/// nanoseconds over 999,999,999, the body's first bad token, as
-/// [`walk_body`](crate::walk_body) refuses it, and a destination that is too
+/// nanoseconds over 999,999,999, the body's first bad token or second subject,
+/// as [`walk_body`](crate::walk_body) refuses it, and a destination that is too
 /// small.
 ///
 /// ```
@@ -259,8 +259,9 @@ pub fn write_record(dst: &mut [u8], header: &Header, body: &[u8]) -> Result<usiz
 ///
 /// Refused, in this order, are more than 65,535 bytes in all, a version over
 /// 255 or times too large for a header32_ex, nanoseconds over 999,999,999, the
-/// body's first bad token, as [`walk_body`](crate::walk_body) refuses it, and a
-/// destination that is too small.
+/// body's first bad token or second subject, as
+/// [`walk_body`](crate::walk_body) refuses it, and a destination that is too
+/// small.
 ///
 /// ```
 /// use bsm::{address_at, item_at, write_record_ex, Header, HeaderKind, Item};
@@ -295,4 +296,107 @@ pub fn write_record_ex(
             }
         }
     })
+}
+
+#[cfg(test)]
+mod tests {
+    use super::*;
+    use crate::{item_at, tokens, walk_body, Newest, Party, Reader, Reason, Step};
+
+    const HOST: IpAddr = IpAddr::V6(core::net::Ipv6Addr::LOCALHOST);
+
+    fn party<P, A>(port: P, address: A) -> Party<P, A> {
+        Party {
+            audit: 1,
+            effective_user: 2,
+            effective_group: 3,
+            real_user: 4,
+            real_group: 5,
+            process: 6,
+            session: 7,
+            port,
+            address,
+        }
+    }
+
+    /// A subject of each kind, and the number of the process like it.
+    fn subjects() -> [(NewToken<'static>, u8); 4] {
+        [
+            (NewToken::Subject32(party(8, 9)), 0x26),
+            (NewToken::Subject64(party(8, 9)), 0x77),
+            (NewToken::Subject32Ex(party(8, HOST)), 0x7B),
+            (NewToken::Subject64Ex(party(8, HOST)), 0x7D),
+        ]
+    }
+
+    /// Bodies of two subjects of all kinds, where the second starts, and the
+    /// number of the process like it.
+    fn bodies(mut with: impl FnMut(&[u8], usize, u8)) {
+        for (first, _) in subjects() {
+            for (second, process) in subjects() {
+                let mut body = [0; 128];
+                let at = write_token(&mut body, &first).unwrap();
+                let end = at + write_token(&mut body[at..], &second).unwrap();
+                with(&body[..end], at, process);
+            }
+        }
+    }
+
+    #[test]
+    fn a_second_subject_is_not_written() {
+        bodies(|body, place, _| {
+            let refused = Err(Refusal {
+                reason: Reason::SecondSubject,
+                place,
+                need: 0,
+            });
+            assert_eq!(walk_body(body), refused);
+            assert_eq!(tokens(body).filter(|token| token.is_ok()).count(), 2);
+            let mut dst = [0xA5; 256];
+            for kind in [HeaderKind::Header32, HeaderKind::Header64] {
+                let header = Header::new(kind);
+                assert_eq!(write_record(&mut dst, &header, body), refused);
+                assert_eq!(write_record_ex(&mut dst, &header, HOST, body), refused);
+            }
+            assert_eq!(dst, [0xA5; 256]);
+        });
+    }
+
+    /// A process is made the second subject in a record that was written.
+    #[test]
+    fn a_second_subject_is_not_read() {
+        bodies(|body, at, process| {
+            let mut good = [0; 128];
+            good[..body.len()].copy_from_slice(body);
+            good[at] = process;
+            let mut trail = [0; 256];
+            let header = Header::new(HeaderKind::Header64);
+            let size = write_record_ex(&mut trail, &header, HOST, &good[..body.len()]).unwrap();
+            assert_eq!(Newest::new(&trail[..size]).count(), 1);
+            // The trailer has seven bytes.
+            let place = size - 7 - (body.len() - at);
+            assert_eq!(trail[place], process);
+            trail[place] = body[at];
+
+            let refusal = Refusal {
+                reason: Reason::SecondSubject,
+                place,
+                need: 0,
+            };
+            let mut reader = Reader::new();
+            let short = reader.next(&trail[..size - 1]);
+            assert_eq!(
+                short,
+                Step::Short {
+                    place: 0,
+                    need: size
+                }
+            );
+            for end in size..=trail.len() {
+                assert_eq!(item_at(&trail[..end], 0), Err(refusal));
+                assert_eq!(reader.next(&trail[..end]), Step::Refused(refusal));
+            }
+            assert_eq!(Newest::new(&trail[..size]).count(), 0);
+        });
+    }
 }
