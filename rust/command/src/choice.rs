@@ -76,12 +76,16 @@ impl Choice {
 }
 
 /// The session and the users that a subject or process token names.
-struct Named {
-    session: u32,
-    users: [u32; 3],
+#[derive(Clone, Copy, Debug, PartialEq, Eq)]
+pub struct Named {
+    /// The session.
+    pub session: u32,
+    /// The audit, the effective and the real user.
+    pub users: [u32; 3],
 }
 
-fn named(token: &Token<'_>) -> Option<Named> {
+/// Whom a token names, if it is a subject or a process.
+pub fn named(token: &Token<'_>) -> Option<Named> {
     match token {
         Token::Subject32(party) | Token::Process32(party) => Some(named_in(party)),
         Token::Subject64(party) | Token::Process64(party) => Some(named_in(party)),

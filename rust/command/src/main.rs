@@ -20,6 +20,7 @@ mod system;
 mod tail;
 mod text;
 mod time;
+mod two_subjects;
 mod whole;
 mod write;
 

@@ -7,6 +7,7 @@ use crate::mistyped::Mistyped;
 use crate::output::{say, title};
 use crate::spoilt::Spoilt;
 use crate::status::Status;
+use crate::two_subjects::TwoSubjects;
 use bsm::{tokens, Item, Items, Reason, Refusal, State};
 use std::ffi::OsStr;
 use std::io::{self, Write};
@@ -117,6 +118,9 @@ pub fn say_stop(name: &OsStr, trail: &[u8], state: State, stop: Stop) -> Status 
 fn why_refused(trail: &[u8], state: State, refusal: &Refusal) -> String {
     if let Some(spoilt) = Spoilt::find(trail, state.place, refusal) {
         return spoilt.to_string();
+    }
+    if let Some(two) = TwoSubjects::find(trail, state.place, refusal) {
+        return two.to_string();
     }
     match Mistyped::find(trail, refusal) {
         Some(mistyped) => mistyped.to_string(),

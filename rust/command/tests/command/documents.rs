@@ -6,7 +6,7 @@
 //! what changed before you keep it.
 
 use crate::run::*;
-use crate::trails::tokens_trail;
+use crate::trails::{joined_trail, tokens_trail};
 use generator::stored_files;
 use std::env;
 use std::fs;
@@ -27,6 +27,7 @@ fn place() -> Scratch {
         }
     }
     scratch.file("tokens", &tokens_trail());
+    scratch.file("joined", &joined_trail());
     scratch
 }
 

@@ -129,6 +129,19 @@ fn both_find_the_session() {
         let end = ": still being written\n";
         assert!(short.stderr.ends_with(end), "{}", short.stderr);
         assert_eq!(short.status, 1);
+        // A record with two subjects is no session's.
+        let joined = joined_trail();
+        let refusal = reference::run(&joined, Default::default()).refusal;
+        let refusal = refusal.expect("two subjects");
+        for session in ["77", "78"] {
+            let refused = run(session, &joined);
+            let said = format!(
+                "find_session: refusal 14, place {}, need 0\n",
+                refusal.place
+            );
+            assert_eq!((refused.status, refused.stderr), (1, said), "{session}");
+            assert_eq!(refused.stdout, b"", "{session}");
+        }
         for session in ["seven", "+7", "-7", "", "4294967296", "7 "] {
             let usage = run(session, &trail);
             let said = "usage: find_session SESSION < TRAIL\n";

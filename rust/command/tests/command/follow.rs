@@ -2,6 +2,7 @@
 
 use crate::run::*;
 use crate::trails::*;
+use bsm::Token;
 use generator::*;
 use std::fs::{self, File};
 use std::io::{Read, Write};
@@ -164,7 +165,7 @@ fn a_refusal_ends_it() {
     let scratch = Scratch::new();
     let mut rng = Rng::new(853);
     let mut refused = 0;
-    for number in 3..=9 {
+    for number in (3..=9).chain([13, 14]) {
         let mut trail = good_trail(&mut rng, 3);
         trail.extend(targeted(&mut rng, number).0);
         if status_of(&trail) != 1 {
@@ -178,6 +179,34 @@ fn a_refusal_ends_it() {
         assert!(ended.stderr.contains(": refused: "), "{}", ended.stderr);
     }
     assert!(refused > 3);
+}
+
+/// A record with two subjects is waited for until it is whole, and ends it
+/// then, also where more comes at once.
+#[test]
+fn a_second_subject_ends_it() {
+    let scratch = Scratch::new();
+    let before = tokens_trail();
+    let subject = Token::Subject32(party(1, 1));
+    let record = joined(&header(1, 5), &[subject, subject]);
+    for more in [&b""[..], &before] {
+        let path = scratch.file(format!("trail{}", more.len()), &before);
+        let following = Following::file(&["--list"], &path);
+        let last = record.len() - 1;
+        for byte in record[..last].chunks(1) {
+            append(&path, byte);
+            sleep(Duration::from_millis(4));
+            following.wait_for(&lines_so_far(&before));
+        }
+        append(&path, &[&record[last..], more].concat());
+        let ended = following.ended();
+        let trail = [&before[..], &record, more].concat();
+        assert_eq!(text(&ended.stdout), text(&reference::listing(&trail)));
+        let said = ended
+            .stderr
+            .contains(": refused: two subjects in the record");
+        assert!(said && ended.status == 1, "{}", ended.stderr);
+    }
 }
 
 /// The forms of print, and a choice.

@@ -18,3 +18,4 @@ mod record;
 mod run;
 mod spoilt;
 mod trails;
+mod two_subjects;

@@ -1,7 +1,8 @@
 //! Trails for the tests.
 
-use bsm::{write_record, write_record_ex, write_token};
+use bsm::{write_file, write_record, write_record_ex, write_token};
 use bsm::{Header, HeaderKind, IpHeader, IpcPerm, NewToken, Party, Refusal, Strings, Token};
+use generator::raw_record;
 use std::net::{IpAddr, Ipv4Addr, Ipv6Addr};
 
 /// What a trail would write to a terminal if it could: an escape sequence,
@@ -25,15 +26,65 @@ fn written(
     tokens: &[NewToken<'_>],
     write: impl FnOnce(&mut [u8], &[u8]) -> Result<usize, Refusal>,
 ) -> Vec<u8> {
+    let mut record = vec![0; 65_536];
+    let size = write(&mut record, &body(tokens)).expect("a good record");
+    record.truncate(size);
+    record
+}
+
+/// These tokens, one behind the other.
+fn body(tokens: &[NewToken<'_>]) -> Vec<u8> {
     let mut body = vec![0; 65_536];
     let mut used = 0;
     for token in tokens {
         used += write_token(&mut body[used..], token).expect("a good token");
     }
-    let mut record = vec![0; 65_536];
-    let size = write(&mut record, &body[..used]).expect("a good record");
-    record.truncate(size);
-    record
+    body.truncate(used);
+    body
+}
+
+/// A record of these tokens, also where no writer makes one of them. The
+/// header is not an expanded one.
+pub fn joined(header: &Header, tokens: &[NewToken<'_>]) -> Vec<u8> {
+    let header = reference::Header {
+        number: header.kind.number(),
+        version: header.version,
+        event: header.event,
+        modifier: header.modifier,
+        address: &[],
+        seconds: header.seconds,
+        nanoseconds: header.nanoseconds,
+    };
+    raw_record(&header, &body(tokens))
+}
+
+/// A file token, and two records that somebody has made into one.
+pub fn joined_trail() -> Vec<u8> {
+    let mut file = [0; 13];
+    write_file(&mut file, 5, 7, b"a").expect("room");
+    let subject = |user, session| Party {
+        audit: user,
+        effective_user: user,
+        effective_group: 100,
+        real_user: user,
+        real_group: 100,
+        process: 4_242,
+        session,
+        port: 0,
+        address: 0x7F00_0001,
+    };
+    let tokens = [
+        Token::Subject32(subject(1_000, 77)),
+        Token::Path {
+            text: b"/bookings/cancel",
+        },
+        Token::Subject32(subject(1_001, 78)),
+        Token::Path {
+            text: b"/bookings/4712",
+        },
+    ];
+    let record = joined(&header(6_152, 1_763_200_000), &tokens);
+    [&file[..], &record].concat()
 }
 
 /// A header with this event and this second.
