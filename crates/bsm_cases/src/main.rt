@@ -2,6 +2,7 @@
 // whole by a run. The smallest records of both headers stand beside case 5, and beside case 9 one whose version has two bytes. Case
 // "path" has a body whose first token is a path; in the cases after it that path has a zero byte inside, a last byte that is not zero,
 // and no byte at all. The cases "ex" are of expanded headers and tokens; the bytes of their addresses are letters.
+#![tactic(auto)]
 use bsm_item::item::{Item, ItemRead};
 use bsm_item::read::{address_of, body_of, item_at, name_of};
 use bsm_item::state::{Ending, State};

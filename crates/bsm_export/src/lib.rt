@@ -1,4 +1,5 @@
 // The library for C and Rust: slices, numbers and structs of numbers only (include/bsm.h).
+#![tactic(auto)]
 pub mod answer;
 pub mod back;
 pub mod expanded;

@@ -1,5 +1,6 @@
 // Writes a token of each kind, a file token and records into one buffer, one behind the other; for each it prints the bytes that
 // were written, in hexadecimal and parted into fields, and what is read there. Last come writes that are refused.
+#![tactic(auto)]
 ghost use Rattle.std.specs.Prelude.{◌≤◌, length};
 
 mod items;
