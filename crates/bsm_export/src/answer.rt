@@ -8,7 +8,7 @@ use bsm_token::refusal::Refusal;
 
 // How many bytes were written, or tokens counted; or the refusal. `number` is 0 where nothing was refused.
 #[repr(C)]
-#[derive(Drop)]
+#[derive(Clone, Copy)]
 pub struct BsmWritten {
     pub written: u64,
     pub number: u64,

@@ -11,7 +11,7 @@ use bsm_token::refusal::Refusal;
 // A step back: `item` has kind 2 for a record, 4 for a boundary, whose need is the item's, and 3 for a refusal. `place` is where the step
 // led: the record's start, or the place it was asked for.
 #[repr(C)]
-#[derive(Drop)]
+#[derive(Clone, Copy)]
 pub struct BsmBefore {
     pub item: BsmItem,
     pub place: u64,

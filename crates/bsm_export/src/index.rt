@@ -15,7 +15,7 @@ use bsm_item::state::State;
 
 // What a fill came to: the run or its refusal, and how many entries all records up to the run's end have.
 #[repr(C)]
-#[derive(Drop)]
+#[derive(Clone, Copy)]
 pub struct BsmFilled {
     pub run: BsmOutcome,
     pub count: u64,
@@ -23,7 +23,7 @@ pub struct BsmFilled {
 
 // A record and its place: `item` has kind 2. Where there is none it has kind 0 or 3, and the place is 0.
 #[repr(C)]
-#[derive(Drop)]
+#[derive(Clone, Copy)]
 pub struct BsmFound {
     pub item: BsmItem,
     pub place: u64,

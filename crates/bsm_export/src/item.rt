@@ -11,7 +11,7 @@ use bsm_token::refusal::Refusal;
 
 // The answer at a place: `kind` is 0 at the end, 1 for a file token, 2 for a record, 3 for a refusal. What a kind does not have is 0.
 #[repr(C)]
-#[derive(Drop)]
+#[derive(Clone, Copy)]
 pub struct BsmItem {
     pub kind: u64,
     pub size: u64,
@@ -33,7 +33,7 @@ pub struct BsmItem {
 
 // A part of a buffer.
 #[repr(C)]
-#[derive(Drop)]
+#[derive(Clone, Copy)]
 pub struct BsmPart {
     pub start: u64,
     pub length: u64,

@@ -20,7 +20,7 @@ use bsm_listing::listing::{Cursor, Listing, list_part};
 // Which line comes next and how many bytes of lines were written: `stage` is 0 for the first line, 1 for the line at the state, 2
 // behind the last one. Without a state its numbers are 0.
 #[repr(C)]
-#[derive(Drop)]
+#[derive(Clone, Copy)]
 pub struct BsmListing {
     pub stage: u64,
     pub place: u64,

@@ -12,7 +12,7 @@ use bsm_token::refusal::Refusal;
 
 // The answer at a state, and the state after it: only an item moves it.
 #[repr(C)]
-#[derive(Drop)]
+#[derive(Clone, Copy)]
 pub struct BsmStep {
     pub item: BsmItem,
     pub place: u64,
@@ -22,7 +22,7 @@ pub struct BsmStep {
 
 // The state at which a run stopped, and the refusal there, zeros at the end.
 #[repr(C)]
-#[derive(Drop)]
+#[derive(Clone, Copy)]
 pub struct BsmOutcome {
     pub place: u64,
     pub records: u64,
