@@ -1,0 +1,6 @@
+use Rattle.bsm_export.proofs.Answers.{exported}
+use borrow.Author.Rules.{rules}
+use Rattle.bsm_export.proofs.lines.bsm_first_line.Goals as goal
+
+pub returns : goal.returns
+returns c = search (exported, rules)
