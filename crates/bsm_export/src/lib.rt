@@ -1,5 +1,6 @@
 // The library for C and Rust: slices, numbers and structs of numbers only (include/bsm.h).
 #![tactic(auto)]
+
 pub mod answer;
 pub mod back;
 pub mod expanded;
