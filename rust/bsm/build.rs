@@ -17,7 +17,7 @@ fn main() {
     println!("cargo:rerun-if-changed={}", archive.display());
     if !archive.is_file() {
         eprintln!("{} is missing.", archive.display());
-        eprintln!("Run `rt staticlib bsm_export` in the repository's root to make it,");
+        eprintln!("Run `scripts/ready bsm library` in the repository's root to make it,");
         eprintln!("or set BSM_ARCHIVE_DIR to the folder that holds {ARCHIVE}.");
         exit(1);
     }

@@ -13,23 +13,23 @@ use std::time::SystemTime;
 /// Stands in for `rt`: the program and the archive are the code. Someone may
 /// change the code meanwhile.
 const RT: &str = r#"#!/bin/sh
-echo "rt $*" >>calls
+echo "rt $* in $(basename "$PWD")" >>../../calls
 cat >/dev/null
-if grep -q fails crates/code.rt; then
+if grep -q fails ../code.rt; then
     echo "rt: the code fails" >&2
     exit 1
 fi
-echo "rt: crate proved (unchanged since it was last proved)"
-echo "rt: crate proved (7 s)"
-mkdir -p target/bin target/staticlib
+echo "checked crate::function, 1 of 1"
+echo "crate crate: modules loaded=0 checked=7"
+mkdir -p out
 case $1 in
-    check) product=target/bin/bsmlist ;;
-    staticlib) product=target/staticlib/libbsm_export.a ;;
+    run) product=out/bsmlist ;;
+    lib) product=out/libbsm_export.a ;;
 esac
-cp crates/code.rt new
+cp ../code.rt new
 chmod +x new
 mv new $product
-if [ -e meanwhile ]; then mv meanwhile crates/code.rt; fi
+if [ -e ../../meanwhile ]; then mv ../../meanwhile ../code.rt; fi
 "#;
 
 /// Stands in for `cargo`, and goes by times as it does: the command is the
@@ -59,7 +59,8 @@ impl Copy {
     fn new() -> Copy {
         let copy = Copy(Scratch::new());
         for folder in [
-            "crates",
+            "crates/bsm_export",
+            "crates/bsmlist",
             "scripts",
             "rust/bsm",
             "rust/command/src",
@@ -139,10 +140,10 @@ impl Copy {
 
 /// The launchers, and what each has proved.
 const LAUNCHERS: [(&str, &str, &str); 2] = [
-    ("bsmlist", "rt check bsmlist\n", "target/bin/bsmlist"),
+    ("bsmlist", "rt run in bsmlist\n", "target/bin/bsmlist"),
     (
         "bsm",
-        "rt staticlib bsm_export\n",
+        "rt lib in bsm_export\n",
         "target/staticlib/libbsm_export.a",
     ),
 ];
@@ -155,7 +156,7 @@ fn builds_once_and_says_so() {
         assert_eq!(text(&first.stdout), "first a b c\ninput\n");
         let mut said = vec![
             format!("{name}: {product} is missing or not from this code; proving and building it: some minutes"),
-            format!("{name}: crate proved (7 s)"),
+            format!("{name}: crate checked"),
         ];
         let mut calls = proving.to_string();
         if name == "bsm" {
