@@ -61,12 +61,12 @@ fn permissions(rt: &impl Print, p: Permissions) -> io::Result<()> {
 // The fields of a token, in the order of its layout.
 fn fields(rt: &impl Print, t: Token) -> io::Result<()> {
     match t {
-        Token::Path { length } => number(rt, length as u64),
-        Token::Subject32(p) => party32(rt, p),
-        Token::Process32(p) => party32(rt, p),
+        Token::Path { length } | Token::Text { length } | Token::Opaque { length } => number(
+            rt,
+            length as u64,
+        ),
+        Token::Subject32(p) | Token::Process32(p) => party32(rt, p),
         Token::Return32 { error, value } => two(rt, error as u64, value as u64),
-        Token::Text { length } => number(rt, length as u64),
-        Token::Opaque { length } => number(rt, length as u64),
         Token::InAddr(address) => number(rt, address as u64),
         Token::Ip(h) => ip(rt, h),
         Token::Iport(port) => number(rt, port as u64),
@@ -78,8 +78,7 @@ fn fields(rt: &impl Print, t: Token) -> io::Result<()> {
         Token::Seq(sequence) => number(rt, sequence as u64),
         Token::IpcPerm(p) => permissions(rt, p),
         Token::Newgroups { count } => number(rt, count as u64),
-        Token::ExecArgs { count } => number(rt, count as u64),
-        Token::ExecEnv { count } => number(rt, count as u64),
+        Token::ExecArgs { count } | Token::ExecEnv { count } => number(rt, count as u64),
         Token::Exit { status, value } => two(rt, status as u64, value as u64),
         Token::Arg64 {
             argument,
@@ -87,21 +86,12 @@ fn fields(rt: &impl Print, t: Token) -> io::Result<()> {
             length,
         } => three(rt, argument as u64, value, length as u64),
         Token::Return64 { error, value } => two(rt, error as u64, value),
-        Token::Subject64(p) => party64(rt, p),
-        Token::Process64(p) => party64(rt, p),
-        Token::Subject32Ex { party, length } => {
+        Token::Subject64(p) | Token::Process64(p) => party64(rt, p),
+        Token::Subject32Ex { party, length } | Token::Process32Ex { party, length } => {
             party_ex32(rt, party)?;
             number(rt, length as u64)
         }
-        Token::Process32Ex { party, length } => {
-            party_ex32(rt, party)?;
-            number(rt, length as u64)
-        }
-        Token::Subject64Ex { party, length } => {
-            party_ex64(rt, party)?;
-            number(rt, length as u64)
-        }
-        Token::Process64Ex { party, length } => {
+        Token::Subject64Ex { party, length } | Token::Process64Ex { party, length } => {
             party_ex64(rt, party)?;
             number(rt, length as u64)
         }
