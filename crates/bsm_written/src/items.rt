@@ -1,5 +1,4 @@
 // A file token and records: writing them.
-use crate::print::say;
 use crate::read::count;
 use bsm_bytes::answer::WriteAnswer;
 use bsm_draft::header::HeaderFields;
@@ -7,6 +6,7 @@ use bsm_record::record::{write_record32, write_record32_ex, write_record64, writ
 use bsm_token::body::{BodyRead, walk_body};
 use bsm_token::part::{part, rest};
 use bsm_write::file::write_file;
+use std::io;
 
 fn header() -> HeaderFields {
     HeaderFields {
@@ -19,7 +19,7 @@ fn header() -> HeaderFields {
 }
 
 // The tokens of a body up to its second subject, where a walk refuses it.
-fn with_one<'a>(body: &'a [u8]) -> &'a [u8] {
+fn with_one(body: &[u8]) -> &[u8] {
     match walk_body(body) {
         BodyRead::Tokens(_) => body,
         BodyRead::Refused(f) => part(body, 0, f.place),
@@ -27,13 +27,13 @@ fn with_one<'a>(body: &'a [u8]) -> &'a [u8] {
 }
 
 // The tokens from that subject on.
-fn behind<'a>(body: &'a [u8]) -> &'a [u8] {
+fn behind(body: &[u8]) -> &[u8] {
     rest(body, with_one(body).len())
 }
 
 // Writes a file token, a record without a body, or one of four records that share the tokens of a body, with a header and a subject of
 // another kind each.
-pub(crate) fn write_item<'a>(i: usize, dst: &mut [u8], body: &'a [u8]) -> WriteAnswer {
+pub(crate) fn write_item(i: usize, dst: &mut [u8], body: &[u8]) -> WriteAnswer {
     match i {
         0 => write_file(dst, 5, 7, b"a"),
         1 => write_record32(dst, header(), b""),
@@ -55,9 +55,13 @@ pub(crate) fn write_item<'a>(i: usize, dst: &mut [u8], body: &'a [u8]) -> WriteA
 }
 
 // Writes that are refused: an address of 5 bytes, and the whole body in one record.
-pub(crate) fn write_refused<'a>(dst: &mut [u8], body: &'a [u8]) {
-    say(b"record32_ex, an address of 5 bytes\n  ");
-    count(write_record32_ex(dst, header(), b"\x01\x02\x03\x04\x05", b""));
-    say(b"record32, a second subject\n  ");
-    count(write_record32(dst, header(), body));
+pub(crate) fn write_refused(rt: &impl Print, dst: &mut [u8], body: &[u8]) -> io::Result<()> {
+    print!(rt; "record32_ex, an address of 5 bytes\n  ")?;
+    count(
+        rt,
+        write_record32_ex(dst, header(), b"\x01\x02\x03\x04\x05", b""),
+    )?;
+    print!(rt; "record32, a second subject\n  ")?;
+    count(rt, write_record32(dst, header(), body))?;
+    Ok(())
 }

@@ -1,62 +1,87 @@
 // Writes a token of each kind, a file token and records into one buffer, one behind the other; for each it prints the bytes that
 // were written, in hexadecimal and parted into fields, and what is read there. Last come writes that are refused.
 #![tactic(auto)]
-ghost use Rattle.std.specs.Prelude.{◌≤◌, length};
 
 mod items;
 mod print;
 mod read;
 mod tokens;
 
+ghost use Rattle.std.specs.Prelude.{◌≤◌, IfOk, length};
+
 use bsm_bytes::bytes::write_bytes;
-use bsm_field::number::u8_at;
+use bsm_token::kind;
 use bsm_token::part::part;
 use items::{write_item, write_refused};
 use print::{behind, print_written};
 use read::{count, item_back, token_back};
+use std::io;
 use tokens::write_kind;
 
+// The tokens' numbers, in the order of their printing.
+const NUMBERS: [u8; 25] = [
+    kind::PATH,
+    kind::SUBJECT32,
+    kind::PROCESS32,
+    kind::RETURN32,
+    kind::TEXT,
+    kind::OPAQUE,
+    kind::IN_ADDR,
+    kind::IP,
+    kind::IPORT,
+    kind::ARG32,
+    kind::SEQ,
+    kind::IPC_PERM,
+    kind::NEWGROUPS,
+    kind::EXEC_ARGS,
+    kind::EXEC_ENV,
+    kind::EXIT,
+    kind::ARG64,
+    kind::RETURN64,
+    kind::SUBJECT64,
+    kind::PROCESS64,
+    kind::SUBJECT32_EX,
+    kind::PROCESS32_EX,
+    kind::SUBJECT64_EX,
+    kind::PROCESS64_EX,
+    kind::IN_ADDR_EX,
+];
+
 // A token of each kind, from the start of a buffer on; answers the place behind the last one.
-fn all_tokens(space: &mut [u8]) -> usize
-    ensures { result ≤ length space.new }
+fn all_tokens(rt: &impl Print, space: &mut [u8]) -> io::Result<usize>
+    ensures { IfOk result (λ at. at ≤ length space.new) }
 {
-    let kinds =
-        b"\x23\x24\x26\x27\x28\x29\x2A\x2B\x2C\x2D\x2F\x32\x3B\x3C\x3D\x52\x71\x72\x75\x77\x7A\x7B\x7C\x7D\x7E";
-    let mut at: usize = 0;
-    let mut i: usize = 0;
-    while i < 25 {
-        let number = u8_at(kinds, i);
-        let n = count(write_kind(number, &mut space[at..]));
+    let mut at = 0;
+    for (i, number) in NUMBERS.iter().enumerate() {
+        let n = count(rt, write_kind(*number, &mut space[at..]))?;
         let end = behind(space, at, n);
-        print_written(i, part(space, at, n));
-        token_back(part(space, 0, end), at);
+        print_written(rt, i, part(space, at, n))?;
+        token_back(rt, part(space, 0, end), at)?;
         at = end;
-        i += 1;
     }
-    at
+    Ok(at)
 }
 
 // The items, from a place of a buffer on.
-fn all_items(space: &mut [u8], from: usize, body: &[u8])
+fn all_items(rt: &impl Print, space: &mut [u8], from: usize, body: &[u8]) -> io::Result<()>
     requires { from ≤ length space.old }
 {
     let mut at = from;
-    let mut i: usize = 0;
-    while i < 6 {
-        let n = count(write_item(i, &mut space[at..], body));
+    for i in 0..6 {
+        let n = count(rt, write_item(i, &mut space[at..], body))?;
         let end = behind(space, at, n);
-        print_written(25 + i, part(space, at, n));
-        item_back(part(space, 0, end), at);
+        print_written(rt, 25 + i, part(space, at, n))?;
+        item_back(rt, part(space, 0, end), at)?;
         at = end;
-        i += 1;
     }
+    Ok(())
 }
 
-fn main() {
-    let mut space = io::buffer();
-    let mut body = io::buffer();
-    let at = all_tokens(&mut space);
-    let n = count(write_bytes(&mut body, part(&space, 0, at)));
-    all_items(&mut space, at, part(&body, 0, n));
-    write_refused(&mut space, part(&body, 0, n));
+fn main(rt: HostRuntime) -> io::Result<()> {
+    let mut space = [0u8; 4096];
+    let mut body = [0u8; 4096];
+    let at = all_tokens(&rt, &mut space)?;
+    let n = count(&rt, write_bytes(&mut body, part(&space, 0, at)))?;
+    all_items(&rt, &mut space, at, part(&body, 0, n))?;
+    write_refused(&rt, &mut space, part(&body, 0, n))
 }

@@ -1,5 +1,5 @@
 // Printing what the readers answer.
-use crate::print::{hex, number, say};
+use crate::print::{hex, number};
 use bsm_bytes::answer::WriteAnswer;
 use bsm_item::item::{Item, ItemRead};
 use bsm_item::read::{address_of, body_of, item_at, name_of};
@@ -7,131 +7,101 @@ use bsm_kinds::token::{Token, TokenRead, token_at};
 use bsm_token::kind::{IpHeader, Party32, Party64, PartyEx32, PartyEx64, Permissions};
 use bsm_token::part::part;
 use bsm_token::refusal::Refusal;
+use std::io;
 
-pub(crate) fn refused(f: Refusal) {
-    say(b"refused");
-    number(f.number as u64);
-    number(f.place as u64);
-    number(f.need as u64);
+pub(crate) fn refused(rt: &impl Print, f: Refusal) -> io::Result<()> {
+    print!(rt; "refused {} {} {}", f.number, f.place, f.need)
 }
 
-fn two(a: u64, b: u64) {
-    number(a);
-    number(b);
+fn two(rt: &impl Print, a: u64, b: u64) -> io::Result<()> {
+    print!(rt; " {a} {b}")
 }
 
-fn three(a: u64, b: u64, c: u64) {
-    two(a, b);
-    number(c);
+fn three(rt: &impl Print, a: u64, b: u64, c: u64) -> io::Result<()> {
+    print!(rt; " {a} {b} {c}")
 }
 
-fn party32(p: Party32) {
-    three(
-        p.audit as u64,
-        p.effective_user as u64,
-        p.effective_group as u64,
-    );
-    three(p.real_user as u64, p.real_group as u64, p.process as u64);
-    three(p.session as u64, p.port as u64, p.address as u64);
+fn party32(rt: &impl Print, p: Party32) -> io::Result<()> {
+    print!(rt; " {} {} {}", p.audit, p.effective_user, p.effective_group)?;
+    print!(rt; " {} {} {}", p.real_user, p.real_group, p.process)?;
+    print!(rt; " {} {} {}", p.session, p.port, p.address)
 }
 
-fn party64(p: Party64) {
-    three(
-        p.audit as u64,
-        p.effective_user as u64,
-        p.effective_group as u64,
-    );
-    three(p.real_user as u64, p.real_group as u64, p.process as u64);
-    three(p.session as u64, p.port, p.address as u64);
+fn party64(rt: &impl Print, p: Party64) -> io::Result<()> {
+    print!(rt; " {} {} {}", p.audit, p.effective_user, p.effective_group)?;
+    print!(rt; " {} {} {}", p.real_user, p.real_group, p.process)?;
+    print!(rt; " {} {} {}", p.session, p.port, p.address)
 }
 
-fn party_ex32(p: PartyEx32) {
-    three(
-        p.audit as u64,
-        p.effective_user as u64,
-        p.effective_group as u64,
-    );
-    three(p.real_user as u64, p.real_group as u64, p.process as u64);
-    two(p.session as u64, p.port as u64);
+fn party_ex32(rt: &impl Print, p: PartyEx32) -> io::Result<()> {
+    print!(rt; " {} {} {}", p.audit, p.effective_user, p.effective_group)?;
+    print!(rt; " {} {} {}", p.real_user, p.real_group, p.process)?;
+    print!(rt; " {} {}", p.session, p.port)
 }
 
-fn party_ex64(p: PartyEx64) {
-    three(
-        p.audit as u64,
-        p.effective_user as u64,
-        p.effective_group as u64,
-    );
-    three(p.real_user as u64, p.real_group as u64, p.process as u64);
-    two(p.session as u64, p.port);
+fn party_ex64(rt: &impl Print, p: PartyEx64) -> io::Result<()> {
+    print!(rt; " {} {} {}", p.audit, p.effective_user, p.effective_group)?;
+    print!(rt; " {} {} {}", p.real_user, p.real_group, p.process)?;
+    print!(rt; " {} {}", p.session, p.port)
 }
 
-fn ip(h: IpHeader) {
-    three(h.version as u64, h.service as u64, h.length as u64);
-    three(h.id as u64, h.offset as u64, h.ttl as u64);
-    two(h.protocol as u64, h.checksum as u64);
-    two(h.source as u64, h.destination as u64);
+fn ip(rt: &impl Print, h: IpHeader) -> io::Result<()> {
+    print!(rt; " {} {} {}", h.version, h.service, h.length)?;
+    print!(rt; " {} {} {}", h.id, h.offset, h.ttl)?;
+    print!(rt; " {} {}", h.protocol, h.checksum)?;
+    print!(rt; " {} {}", h.source, h.destination)
 }
 
-fn permissions(p: Permissions) {
-    two(p.user as u64, p.group as u64);
-    two(p.creator_user as u64, p.creator_group as u64);
-    three(p.mode as u64, p.sequence as u64, p.key as u64);
+fn permissions(rt: &impl Print, p: Permissions) -> io::Result<()> {
+    print!(rt; " {} {}", p.user, p.group)?;
+    print!(rt; " {} {}", p.creator_user, p.creator_group)?;
+    print!(rt; " {} {} {}", p.mode, p.sequence, p.key)
 }
 
 // The fields of a token, in the order of its layout.
-fn fields(t: Token) {
+fn fields(rt: &impl Print, t: Token) -> io::Result<()> {
     match t {
-        Token::Path { length } => number(length as u64),
-        Token::Subject32(p) => party32(p),
-        Token::Process32(p) => party32(p),
-        Token::Return32 { error, value } => two(error as u64, value as u64),
-        Token::Text { length } => number(length as u64),
-        Token::Opaque { length } => number(length as u64),
-        Token::InAddr(address) => number(address as u64),
-        Token::Ip(h) => ip(h),
-        Token::Iport(port) => number(port as u64),
+        Token::Path { length } | Token::Text { length } | Token::Opaque { length } => number(
+            rt,
+            length as u64,
+        ),
+        Token::Subject32(p) | Token::Process32(p) => party32(rt, p),
+        Token::Return32 { error, value } => two(rt, error as u64, value as u64),
+        Token::InAddr(address) => number(rt, address as u64),
+        Token::Ip(h) => ip(rt, h),
+        Token::Iport(port) => number(rt, port as u64),
         Token::Arg32 {
             argument,
             value,
             length,
-        } => three(argument as u64, value as u64, length as u64),
-        Token::Seq(sequence) => number(sequence as u64),
-        Token::IpcPerm(p) => permissions(p),
-        Token::Newgroups { count } => number(count as u64),
-        Token::ExecArgs { count } => number(count as u64),
-        Token::ExecEnv { count } => number(count as u64),
-        Token::Exit { status, value } => two(status as u64, value as u64),
+        } => three(rt, argument as u64, value as u64, length as u64),
+        Token::Seq(sequence) => number(rt, sequence as u64),
+        Token::IpcPerm(p) => permissions(rt, p),
+        Token::Newgroups { count } => number(rt, count as u64),
+        Token::ExecArgs { count } | Token::ExecEnv { count } => number(rt, count as u64),
+        Token::Exit { status, value } => two(rt, status as u64, value as u64),
         Token::Arg64 {
             argument,
             value,
             length,
-        } => three(argument as u64, value, length as u64),
-        Token::Return64 { error, value } => two(error as u64, value),
-        Token::Subject64(p) => party64(p),
-        Token::Process64(p) => party64(p),
-        Token::Subject32Ex { party, length } => {
-            party_ex32(party);
-            number(length as u64);
+        } => three(rt, argument as u64, value, length as u64),
+        Token::Return64 { error, value } => two(rt, error as u64, value),
+        Token::Subject64(p) | Token::Process64(p) => party64(rt, p),
+        Token::Subject32Ex { party, length } | Token::Process32Ex { party, length } => {
+            party_ex32(rt, party)?;
+            number(rt, length as u64)
         }
-        Token::Process32Ex { party, length } => {
-            party_ex32(party);
-            number(length as u64);
+        Token::Subject64Ex { party, length } | Token::Process64Ex { party, length } => {
+            party_ex64(rt, party)?;
+            number(rt, length as u64)
         }
-        Token::Subject64Ex { party, length } => {
-            party_ex64(party);
-            number(length as u64);
-        }
-        Token::Process64Ex { party, length } => {
-            party_ex64(party);
-            number(length as u64);
-        }
-        Token::InAddrEx { length } => number(length as u64),
+        Token::InAddrEx { length } => number(rt, length as u64),
     }
 }
 
 // The token at a place of a body: its size, its fields, and its text, bytes, groups, strings or address.
-pub(crate) fn token_back(body: &[u8], at: usize) {
-    say(b"  read");
+pub(crate) fn token_back(rt: &impl Print, body: &[u8], at: usize) -> io::Result<()> {
+    print!(rt; "  read")?;
     match token_at(body, at) {
         TokenRead::Found {
             token,
@@ -139,18 +109,17 @@ pub(crate) fn token_back(body: &[u8], at: usize) {
             length,
             size,
         } => {
-            number(size as u64);
-            say(b":");
-            fields(token);
-            hex(part(body, start, length));
+            print!(rt; " {size}:")?;
+            fields(rt, token)?;
+            hex(rt, part(body, start, length))?;
         }
-        TokenRead::End => say(b" end"),
-        TokenRead::Refused(f) => refused(f),
+        TokenRead::End => print!(rt; " end")?,
+        TokenRead::Refused(f) => refused(rt, f)?,
     }
-    say(b"\n");
+    println!(rt)
 }
 
-fn found(trail: &[u8], item: Item) {
+fn found(rt: &impl Print, trail: &[u8], item: Item) -> io::Result<()> {
     match item {
         Item::File {
             size,
@@ -159,10 +128,8 @@ fn found(trail: &[u8], item: Item) {
             start: _,
             length: _,
         } => {
-            number(size as u64);
-            say(b":");
-            two(seconds as u64, microseconds as u64);
-            hex(name_of(trail, item));
+            print!(rt; " {size}: {seconds} {microseconds}")?;
+            hex(rt, name_of(trail, item))
         }
         Item::Record {
             size,
@@ -171,40 +138,36 @@ fn found(trail: &[u8], item: Item) {
             start: _,
             length: _,
         } => {
-            number(size as u64);
-            say(b":");
-            three(
-                header.version as u64,
-                header.event as u64,
-                header.modifier as u64,
-            );
-            hex(address_of(trail, item));
-            two(header.seconds, header.nanoseconds);
-            say(b", tokens");
-            two(tokens as u64, body_of(trail, item).len() as u64);
+            print!(rt;
+                " {size}: {} {} {}",
+                header.version, header.event, header.modifier
+            )?;
+            hex(rt, address_of(trail, item))?;
+            print!(rt; " {} {}", header.seconds, header.nanoseconds)?;
+            print!(rt; ", tokens {tokens} {}", body_of(trail, item).len())
         }
     }
 }
 
 // The item at a place of a trail: its size, its fields, and its name or how many tokens and bytes its body has.
-pub(crate) fn item_back(trail: &[u8], place: usize) {
-    say(b"  read");
+pub(crate) fn item_back(rt: &impl Print, trail: &[u8], place: usize) -> io::Result<()> {
+    print!(rt; "  read")?;
     match item_at(trail, place) {
-        ItemRead::Found(item) => found(trail, item),
-        ItemRead::End => say(b" end"),
-        ItemRead::Refused(f) => refused(f),
+        ItemRead::Found(item) => found(rt, trail, item)?,
+        ItemRead::End => print!(rt; " end")?,
+        ItemRead::Refused(f) => refused(rt, f)?,
     }
-    say(b"\n");
+    println!(rt)
 }
 
 // How many bytes were written at a place; a refusal is printed.
-pub(crate) fn count(answer: WriteAnswer) -> usize {
+pub(crate) fn count(rt: &impl Print, answer: WriteAnswer) -> io::Result<usize> {
     match answer {
-        WriteAnswer::Wrote(n) => n,
+        WriteAnswer::Wrote(n) => Ok(n),
         WriteAnswer::Refused(f) => {
-            refused(f);
-            say(b"\n");
-            0
+            refused(rt, f)?;
+            println!(rt)?;
+            Ok(0)
         }
     }
 }
