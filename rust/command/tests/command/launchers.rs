@@ -3,7 +3,9 @@
 
 use crate::run::*;
 use crate::trails::tokens_trail;
+use std::ffi::OsStr;
 use std::fs::{self, File};
+use std::os::unix::ffi::OsStrExt;
 use std::os::unix::fs::symlink;
 use std::path::{Path, PathBuf};
 use std::process::Command;
@@ -313,6 +315,21 @@ fn the_lister_of_the_repository() {
         assert!(text(&help.stdout).starts_with("usage: bsmlist "));
         assert_eq!((help.status, &help.stderr[..]), (0, ""));
     }
+}
+
+/// The program opens files by names that are text; the script the others.
+#[test]
+fn names_that_are_no_text() {
+    let scratch = Scratch::new();
+    let trail = tokens_trail();
+    let name = OsStr::from_bytes(b"a\xff");
+    scratch.file(name, &trail);
+    let mut command = Command::new(root().join("bsmlist"));
+    command.args([name, name]).current_dir(scratch.path());
+    let both = fed(command, b"");
+    let listing = reference::listing(&trail);
+    assert_eq!(text(&both.stdout), text(&listing).repeat(2));
+    assert_eq!((both.status, &both.stderr[..]), (0, ""));
 }
 
 #[test]
