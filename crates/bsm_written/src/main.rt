@@ -7,7 +7,7 @@ mod print;
 mod read;
 mod tokens;
 
-ghost use Rattle.std.specs.Prelude.{◌≤◌, IfOk, length};
+ghost use Rattle.std.specs.Prelude.{◌≡◌, ◌≤◌, IfOk, OnErr, length};
 
 use bsm_bytes::bytes::write_bytes;
 use bsm_token::kind;
@@ -49,7 +49,8 @@ const NUMBERS: [u8; 25] = [
 
 // A token of each kind, from the start of a buffer on; answers the place behind the last one.
 fn all_tokens(rt: &impl Print, space: &mut [u8]) -> io::Result<usize>
-    ensures { IfOk result (λ at. at ≤ length space.new) }
+    ensures ok { IfOk result (λ at. at ≤ length space.new) }
+    ensures err { OnErr result (length space.new ≡ length space.old) }
 {
     let mut at = 0;
     for (i, number) in NUMBERS.iter().enumerate() {

@@ -36,7 +36,7 @@ impl Way {
         let program = program();
         match self {
             Way::Program => {
-                // Without the trap a closed pipe would end it by a signal.
+                // The signal of a closed pipe is ignored, as the script has it.
                 let mut shell = Command::new("/bin/sh");
                 shell.args(["-c", "trap '' PIPE; exec \"$0\" \"$@\""]);
                 shell.arg(program);
