@@ -1,12 +1,11 @@
 -- Fills and records by their numbers as numbers. Assumes nothing.
+use Rattle.std.specs.Prelude.{Some, None, Ok, Err}
 use mathlib.Core.Path.{◌≡◌, sym, ap, ◌∙◌}
 use mathlib.Core.List.{List}
 use Prim.Native.Nat.{ℕ}
 use Rattle.bsm_token.specs.declared.refusal.Refusal.{Refusal}
-use Rattle.bsm_item.specs.Meaning.{read_meant, run_meant}
+use Rattle.bsm_item.specs.Meaning.{read_meant, run_meant, ItemRead}
 use Rattle.bsm_item.specs.declared.item.Item.{Item}
-use Rattle.bsm_item.specs.declared.item.ItemRead.{ItemRead}
-use Rattle.bsm_item.specs.declared.item.ItemRead.TheVariants.{Found as FoundItem, End as NoItem, Refused as NotRead}
 use Rattle.bsm_index.specs.Fill.{Fill}
 use Rattle.bsm_index.specs.Meaning.{fill_meant, FoundAt, find_meant}
 use Rattle.bsm_index.specs.declared.fill.Filled.{Filled}
@@ -27,11 +26,11 @@ module _ (s : List ℕ) (x : Found) {o : FoundAt} (e : find_meant s x ≡ o) {j 
   told : (p : ℕ) (r : ItemRead) → record { place = p; found = read_meant s r } ≡ o → ((t : List ℕ) → j ≡ flat_item (read_meant t r)) → q ≡ record { item = j; place = p } → q ≡ found_numbers o
   told p r f h g = g ∙ ap (λ y. record { item = y; place = p }) (h s) ∙ ap found_numbers f
 
-  pub found_record : (i : Item) (p : ℕ) → x ≡ Record i p → ((t : List ℕ) → j ≡ flat_item (read_meant t (FoundItem i))) → q ≡ record { item = j; place = p } → q ≡ found_numbers o
-  found_record i p f h g = told p (FoundItem i) (ap (find_meant s) (sym f) ∙ e) h g
+  pub found_record : (i : Item) (p : ℕ) → x ≡ Record i p → ((t : List ℕ) → j ≡ flat_item (read_meant t (Ok (Some i)))) → q ≡ record { item = j; place = p } → q ≡ found_numbers o
+  found_record i p f h g = told p (Ok (Some i)) (ap (find_meant s) (sym f) ∙ e) h g
 
-  pub found_end : x ≡ End → ((t : List ℕ) → j ≡ flat_item (read_meant t NoItem)) → q ≡ record { item = j; place = 0 } → q ≡ found_numbers o
-  found_end f h g = told 0 NoItem (ap (find_meant s) (sym f) ∙ e) h g
+  pub found_end : x ≡ End → ((t : List ℕ) → j ≡ flat_item (read_meant t (Ok None))) → q ≡ record { item = j; place = 0 } → q ≡ found_numbers o
+  found_end f h g = told 0 (Ok None) (ap (find_meant s) (sym f) ∙ e) h g
 
-  pub found_refused : (f : Refusal) → x ≡ Refused f → ((t : List ℕ) → j ≡ flat_item (read_meant t (NotRead f))) → q ≡ record { item = j; place = 0 } → q ≡ found_numbers o
-  found_refused f z h g = told 0 (NotRead f) (ap (find_meant s) (sym z) ∙ e) h g
+  pub found_refused : (f : Refusal) → x ≡ Refused f → ((t : List ℕ) → j ≡ flat_item (read_meant t (Err f))) → q ≡ record { item = j; place = 0 } → q ≡ found_numbers o
+  found_refused f z h g = told 0 (Err f) (ap (find_meant s) (sym z) ∙ e) h g
