@@ -43,5 +43,13 @@ module _ {q : BsmItem} where
   refused_flat f e h s =
       h ∙ by_numbers (λ a. flat_answer a no_part no_part) (no_item 3) (λ p n. refl) (λ e p n. refl) f ∙ ap (λ x. flat_item (read_meant s x)) (sym e)
 
-  pub answer_flat : (s : List ℕ) (p : ℕ) (r : ItemRead) → read_meant s r ≡ located p (item_at s p) → ((t : List ℕ) → q ≡ flat_item (read_meant t r)) → q ≡ flat_item (located p (item_at s p))
-  answer_flat s p r e h = h s ∙ ap flat_item e
+  -- r is the answer at the place p
+  module _ (s : List ℕ) (p : ℕ) (r : ItemRead) (e : read_meant s r ≡ located p (item_at s p)) where
+    pub found_here : {i : Found} → r ≡ Ok (Some i) → ((s : List ℕ) → q ≡ flat_found (item_meant s i) (part_meant i) (address_meant i)) → q ≡ flat_item (located p (item_at s p))
+    found_here {i} f h = found_flat i f h s ∙ ap flat_item e
+
+    pub end_here : {f : Refusal} → r ≡ Ok None → f ≡ zeros → q ≡ no_item 0 f.number f.place f.need → q ≡ flat_item (located p (item_at s p))
+    end_here f z h = end_flat f z h s ∙ ap flat_item e
+
+    pub refused_here : {f : Refusal} → r ≡ Err f → q ≡ no_item 3 f.number f.place f.need → q ≡ flat_item (located p (item_at s p))
+    refused_here {f} g h = refused_flat f g h s ∙ ap flat_item e
