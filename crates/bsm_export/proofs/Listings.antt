@@ -1,4 +1,5 @@
 -- Lines and parts of a listing as numbers. Assumes nothing.
+use Rattle.std.specs.Prelude.{Result}
 use mathlib.Core.Path.{◌≡◌, refl, sym, ap, ap₂, ◌∙◌, subst}
 use mathlib.Core.List.{List}
 use Prim.Native.Nat.{ℕ}
@@ -14,7 +15,6 @@ use Rattle.bsm_item.specs.declared.item.ItemRead.TheVariants.{Found as FoundItem
 use Rattle.bsm_item.specs.declared.state.State.{State as Place}
 use Rattle.bsm_item.specs.declared.state.Run.{Run}
 use Rattle.bsm_bytes.specs.Write.{code, denied, answer_meant, Written}
-use Rattle.bsm_bytes.specs.declared.answer.WriteAnswer.{WriteAnswer}
 use Rattle.bsm_listing.specs.Line.{item_line, last_line}
 use Rattle.bsm_listing.specs.Listing.{Cursor, first, at_state, done, lines_of}
 use Rattle.bsm_listing.specs.Meaning.{cursor_meant, Listed}
@@ -38,7 +38,7 @@ module _ (s : List ℕ) (p : ℕ) (x : ItemRead) (e : read_meant s x ≡ located
     lined : {d d' : List ℕ} {a : Answer} → item_at s p ≡ a → r ≡ flat_written (line_answer (length d) p a) → d' ≡ line_left d p a → ItemLined s p d d' r
     lined f g h = record { answer = rw f g; left = rw f h }
 
-    pub line_found : (i : Found) {d d' : List ℕ} {a : WriteAnswer} → x ≡ FoundItem i → ((t : List ℕ) → Written (code (item_line p (item_meant t i))) d d' a) → r ≡ flat_written (answer_meant a)
+    pub line_found : (i : Found) {d d' : List ℕ} {a : Result ℕ Refusal} → x ≡ FoundItem i → ((t : List ℕ) → Written (code (item_line p (item_meant t i))) d d' a) → r ≡ flat_written (answer_meant a)
         → ItemLined s p d d' r
     unfolding line_answer line_left
     line_found i f w g = lined (found f) (exported (w s) g).answer (exported (w s) g).left
@@ -54,7 +54,7 @@ module _ (s : List ℕ) (p : ℕ) (x : ItemRead) (e : read_meant s x ≡ located
         (h ∙ by_numbers (λ a. flat_written (line_answer (length d) p a)) (λ k q n. flat_written (denied k q n)) (λ q n. refl) (λ k q n. refl) f)
         (by_numbers (line_left d p) (λ k q n. d) (λ q n. refl) (λ k q n. refl) f)
 
-pub last_lined : (x : Run) {o : Stop} {d d' : List ℕ} {a : WriteAnswer} {r : BsmWritten} → run_meant x ≡ o → Written (code (last_line (state_meant x.state) (ending_meant x.ending))) d d' a
+pub last_lined : (x : Run) {o : Stop} {d d' : List ℕ} {a : Result ℕ Refusal} {r : BsmWritten} → run_meant x ≡ o → Written (code (last_line (state_meant x.state) (ending_meant x.ending))) d d' a
     → r ≡ flat_written (answer_meant a) → Exported (last_draft o) d d' r
 unfolding last_draft
 last_lined x {o} {d} {d'} {a} {r} e w g = subst (λ y. Exported (last_draft y) d d' r) e (exported w g)
