@@ -1,6 +1,5 @@
 // Printing what the readers answer.
 use crate::print::{hex, number};
-use bsm_bytes::answer::WriteAnswer;
 use bsm_item::item::{Item, ItemRead};
 use bsm_item::read::{address_of, body_of, item_at, name_of};
 use bsm_kinds::token::{Token, TokenRead, token_at};
@@ -150,10 +149,10 @@ pub(crate) fn item_back(rt: &impl Print, trail: &[u8], place: usize) -> io::Resu
 }
 
 // How many bytes were written at a place; a refusal is printed.
-pub(crate) fn count(rt: &impl Print, answer: WriteAnswer) -> io::Result<usize> {
+pub(crate) fn count(rt: &impl Print, answer: Result<usize, Refusal>) -> io::Result<usize> {
     match answer {
-        WriteAnswer::Wrote(n) => Ok(n),
-        WriteAnswer::Refused(f) => {
+        Ok(n) => Ok(n),
+        Err(f) => {
             refused(rt, f)?;
             println!(rt)?;
             Ok(0)

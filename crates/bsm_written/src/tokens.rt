@@ -1,8 +1,8 @@
 // A token of each kind: writing it.
-use bsm_bytes::answer::WriteAnswer;
 use bsm_token::kind;
 use bsm_token::kind::{IpHeader, Party, PartyEx, Permissions};
 use bsm_token::part::part;
+use bsm_token::refusal::Refusal;
 use bsm_write::expanded::{
     write_in_addr_ex, write_process32_ex, write_process64_ex, write_subject32_ex,
     write_subject64_ex,
@@ -72,7 +72,7 @@ fn permissions() -> Permissions {
 }
 
 // Writes an expanded token with this number; each length of an address has its turn.
-fn write_expanded(number: u8, dst: &mut [u8]) -> WriteAnswer {
+fn write_expanded(number: u8, dst: &mut [u8]) -> Result<usize, Refusal> {
     let long = b"\x20\x01\x0D\xB8\0\0\0\0\0\0\0\0\0\0\0\x01";
     let short = part(long, 0, 4);
     match number {
@@ -85,7 +85,7 @@ fn write_expanded(number: u8, dst: &mut [u8]) -> WriteAnswer {
 }
 
 // Writes a token with this number.
-pub(crate) fn write_kind(number: u8, dst: &mut [u8]) -> WriteAnswer {
+pub(crate) fn write_kind(number: u8, dst: &mut [u8]) -> Result<usize, Refusal> {
     match number {
         kind::PATH => write_path(dst, b"/etc/passwd"),
         kind::SUBJECT32 => write_subject32(dst, party(22)),
