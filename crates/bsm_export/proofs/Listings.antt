@@ -1,4 +1,5 @@
 -- Lines and parts of a listing as numbers. Assumes nothing.
+use Rattle.std.specs.Prelude.{Some, None, Ok, Err, Result}
 use mathlib.Core.Path.{◌≡◌, refl, sym, ap, ap₂, ◌∙◌, subst}
 use mathlib.Core.List.{List}
 use Prim.Native.Nat.{ℕ}
@@ -7,14 +8,11 @@ use lib.ListN.{length}
 use Rattle.bsm_token.specs.declared.refusal.Refusal.{Refusal}
 use Rattle.bsm_item.specs.Item.{Answer, item_at}
 use Rattle.bsm_item.specs.Reading.{State, fresh, Outcome as Stop}
-use Rattle.bsm_item.specs.Meaning.{item_meant, located, read_meant, state_meant, ending_meant, run_meant}
+use Rattle.bsm_item.specs.Meaning.{item_meant, located, read_meant, state_meant, ending_meant, run_meant, ItemRead}
 use Rattle.bsm_item.specs.declared.item.Item.{Item as Found}
-use Rattle.bsm_item.specs.declared.item.ItemRead.{ItemRead}
-use Rattle.bsm_item.specs.declared.item.ItemRead.TheVariants.{Found as FoundItem, End, Refused}
 use Rattle.bsm_item.specs.declared.state.State.{State as Place}
 use Rattle.bsm_item.specs.declared.state.Run.{Run}
 use Rattle.bsm_bytes.specs.Write.{code, denied, answer_meant, Written}
-use Rattle.bsm_bytes.specs.declared.answer.WriteAnswer.{WriteAnswer}
 use Rattle.bsm_listing.specs.Line.{item_line, last_line}
 use Rattle.bsm_listing.specs.Listing.{Cursor, first, at_state, done, lines_of}
 use Rattle.bsm_listing.specs.Meaning.{cursor_meant, Listed}
@@ -38,23 +36,23 @@ module _ (s : List ℕ) (p : ℕ) (x : ItemRead) (e : read_meant s x ≡ located
     lined : {d d' : List ℕ} {a : Answer} → item_at s p ≡ a → r ≡ flat_written (line_answer (length d) p a) → d' ≡ line_left d p a → ItemLined s p d d' r
     lined f g h = record { answer = rw f g; left = rw f h }
 
-    pub line_found : (i : Found) {d d' : List ℕ} {a : WriteAnswer} → x ≡ FoundItem i → ((t : List ℕ) → Written (code (item_line p (item_meant t i))) d d' a) → r ≡ flat_written (answer_meant a)
+    pub line_found : (i : Found) {d d' : List ℕ} {a : Result ℕ Refusal} → x ≡ Ok (Some i) → ((t : List ℕ) → Written (code (item_line p (item_meant t i))) d d' a) → r ≡ flat_written (answer_meant a)
         → ItemLined s p d d' r
     unfolding line_answer line_left
     line_found i f w g = lined (found f) (exported (w s) g).answer (exported (w s) g).left
 
-    pub line_end : (d : List ℕ) {f : Refusal} → x ≡ End → f ≡ zeros → r ≡ numbers 0 f → ItemLined s p d d r
+    pub line_end : (d : List ℕ) {f : Refusal} → x ≡ Ok None → f ≡ zeros → r ≡ numbers 0 f → ItemLined s p d d r
     unfolding line_answer line_left flat_written
     line_end d f z g = lined (found f) (g ∙ ap (numbers 0) z) refl
 
-    pub line_refused : (d : List ℕ) (f : Refusal) → x ≡ Refused f → r ≡ numbers 0 f → ItemLined s p d d r
+    pub line_refused : (d : List ℕ) (f : Refusal) → x ≡ Err f → r ≡ numbers 0 f → ItemLined s p d d r
     unfolding line_answer line_left flat_written
     line_refused d f g h =
         lined (found g)
         (h ∙ by_numbers (λ a. flat_written (line_answer (length d) p a)) (λ k q n. flat_written (denied k q n)) (λ q n. refl) (λ k q n. refl) f)
         (by_numbers (line_left d p) (λ k q n. d) (λ q n. refl) (λ k q n. refl) f)
 
-pub last_lined : (x : Run) {o : Stop} {d d' : List ℕ} {a : WriteAnswer} {r : BsmWritten} → run_meant x ≡ o → Written (code (last_line (state_meant x.state) (ending_meant x.ending))) d d' a
+pub last_lined : (x : Run) {o : Stop} {d d' : List ℕ} {a : Result ℕ Refusal} {r : BsmWritten} → run_meant x ≡ o → Written (code (last_line (state_meant x.state) (ending_meant x.ending))) d d' a
     → r ≡ flat_written (answer_meant a) → Exported (last_draft o) d d' r
 unfolding last_draft
 last_lined x {o} {d} {d'} {a} {r} e w g = subst (λ y. Exported (last_draft y) d d' r) e (exported w g)

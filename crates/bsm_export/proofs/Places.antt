@@ -1,4 +1,5 @@
 -- Where bodies, names and strings stand. Assumes nothing.
+use Rattle.std.specs.Prelude.{Some, None, Ok, Err}
 use mathlib.Core.Path.{◌≡◌, refl, sym, ap, ap₂, ◌∙◌}
 use mathlib.Core.Bool.{Bool, true, false}
 use mathlib.Core.List.{List, []}
@@ -14,12 +15,10 @@ use Rattle.bsm_token.specs.declared.refusal.Refusal.{Refusal}
 use Rattle.bsm_token.proofs.Reader.{token_at_lem}
 use Rattle.bsm_token.proofs.Tokens.{size_some, tail_take, tail_length_lem}
 use Rattle.bsm_item.specs.Item.{Answer, item, end, short, refusal, item_at}
-use Rattle.bsm_item.specs.Meaning.{head_meant, address_part, item_meant, part_meant, address_meant, refusal_meant, part_for, address_for, located, read_meant}
+use Rattle.bsm_item.specs.Meaning.{head_meant, address_part, item_meant, part_meant, address_meant, refusal_meant, part_for, address_for, located, read_meant, ItemRead}
 use Rattle.bsm_item.specs.declared.item.Header.{Header}
 use Rattle.bsm_item.specs.declared.item.Item.{Item as Found}
 use Rattle.bsm_item.specs.declared.item.Item.TheVariants.{File, Record}
-use Rattle.bsm_item.specs.declared.item.ItemRead.{ItemRead}
-use Rattle.bsm_item.specs.declared.item.ItemRead.TheVariants.{Found as FoundItem, End, Refused}
 use Rattle.bsm_export.specs.Items.{PartTold, body_of, body_start, name_of, name_start, address_told, address_at}
 use Rattle.bsm_export.specs.declared.item.BsmPart.{BsmPart}
 use Rattle.bsm_export.proofs.Refusals.{by_numbers}
@@ -37,11 +36,11 @@ module _ (s : List ℕ) (p : ℕ) (r : ItemRead) (e : read_meant s r ≡ located
   answer f = sym (ap (λ y. y.answer) e) ∙ ap (λ y. (read_meant s y).answer) f
 
   -- where the part of the item i stands
-  place_of : (i : Found) → r ≡ FoundItem i → part_meant i ≡ part_for p (item (item_meant s i))
+  place_of : (i : Found) → r ≡ Ok (Some i) → part_meant i ≡ part_for p (item (item_meant s i))
   place_of i f = ap (λ y. (read_meant s y).part) (sym f) ∙ ap (λ y. y.part) e ∙ ap (part_for p) (answer f)
 
   -- where its address stands
-  address_place : (i : Found) → r ≡ FoundItem i → address_meant i ≡ address_for p (item (item_meant s i))
+  address_place : (i : Found) → r ≡ Ok (Some i) → address_meant i ≡ address_for p (item (item_meant s i))
   address_place i f = ap (λ y. (read_meant s y).address) (sym f) ∙ ap (λ y. y.address) e ∙ ap (address_for p) (answer f)
 
   -- a part, by its bytes and its start, for each answer
@@ -53,66 +52,66 @@ module _ (s : List ℕ) (p : ℕ) (r : ItemRead) (e : read_meant s r ≡ located
     none_at a f b c h = told_at f (rw (← b, ← c) (nothing_told s h))
 
     -- none where something is refused
-    refused_at : (f : Refusal) → r ≡ Refused f → ((k n : ℕ) → ([] ≡ bytes (short k n)) × (0 ≡ start (short k n))) → ((j k n : ℕ) → ([] ≡ bytes (refusal j k n)) × (0 ≡ start (refusal j k n))) → q ≡ part 0 0
+    refused_at : (f : Refusal) → r ≡ Err f → ((k n : ℕ) → ([] ≡ bytes (short k n)) × (0 ≡ start (short k n))) → ((j k n : ℕ) → ([] ≡ bytes (refusal j k n)) × (0 ≡ start (refusal j k n))) → q ≡ part 0 0
         → PartTold s (bytes (item_at s p)) (start (item_at s p)) q
     refused_at f g x y h =
         none_at (refusal_meant f) (answer g) (by_numbers bytes (λ j k n. []) (λ k n. (x k n).0) (λ j k n. (y j k n).0) f)
         (by_numbers start (λ j k n. 0) (λ k n. (x k n).1) (λ j k n. (y j k n).1) f) h
 
   module _ {q : BsmPart} where
-    pub body_of_lem : (i : Found) (n : ℕ) (d : Header) (c a l : ℕ) → r ≡ FoundItem i → i ≡ Record n d c a l → q ≡ part a l → PartTold s (body_of (item_at s p)) (body_start p (item_at s p)) q
+    pub body_of_lem : (i : Found) (n : ℕ) (d : Header) (c a l : ℕ) → r ≡ Ok (Some i) → i ≡ Record n d c a l → q ≡ part a l → PartTold s (body_of (item_at s p)) (body_start p (item_at s p)) q
     unfolding body_of body_start
     body_of_lem i n d c a l f g h =
-        let w = place_of (Record n d c a l) (f ∙ ap FoundItem g) in
-        told_at body_of (body_start p) (answer (f ∙ ap FoundItem g)) (rw h (record { start = ap (λ y. y.start) w; long = ap (λ y. y.length) w; bytes = refl }))
+        let w = place_of (Record n d c a l) (f ∙ ap (λ y. Ok (Some y)) g) in
+        told_at body_of (body_start p) (answer (f ∙ ap (λ y. Ok (Some y)) g)) (rw h (record { start = ap (λ y. y.start) w; long = ap (λ y. y.length) w; bytes = refl }))
 
-    pub body_none : (i : Found) (n x y a l : ℕ) → r ≡ FoundItem i → i ≡ File n x y a l → q ≡ part 0 0 → PartTold s (body_of (item_at s p)) (body_start p (item_at s p)) q
+    pub body_none : (i : Found) (n x y a l : ℕ) → r ≡ Ok (Some i) → i ≡ File n x y a l → q ≡ part 0 0 → PartTold s (body_of (item_at s p)) (body_start p (item_at s p)) q
     unfolding body_of body_start
-    body_none i n x y a l f g h = told_at body_of (body_start p) (answer (f ∙ ap FoundItem g)) (nothing_told s h)
+    body_none i n x y a l f g h = told_at body_of (body_start p) (answer (f ∙ ap (λ y. Ok (Some y)) g)) (nothing_told s h)
 
-    pub body_end_lem : r ≡ End → q ≡ part 0 0 → PartTold s (body_of (item_at s p)) (body_start p (item_at s p)) q
+    pub body_end_lem : r ≡ Ok None → q ≡ part 0 0 → PartTold s (body_of (item_at s p)) (body_start p (item_at s p)) q
     unfolding body_of body_start
     body_end_lem f h = none_at body_of (body_start p) end (answer f) refl refl h
 
-    pub body_refused : (f : Refusal) → r ≡ Refused f → q ≡ part 0 0 → PartTold s (body_of (item_at s p)) (body_start p (item_at s p)) q
+    pub body_refused : (f : Refusal) → r ≡ Err f → q ≡ part 0 0 → PartTold s (body_of (item_at s p)) (body_start p (item_at s p)) q
     unfolding body_of body_start
     body_refused f g h = refused_at body_of (body_start p) f g (λ k n. (refl, refl)) (λ j k n. (refl, refl)) h
 
-    pub name_of_lem : (i : Found) (n x y a l : ℕ) → r ≡ FoundItem i → i ≡ File n x y a l → q ≡ part a l → PartTold s (name_of (item_at s p)) (name_start p (item_at s p)) q
+    pub name_of_lem : (i : Found) (n x y a l : ℕ) → r ≡ Ok (Some i) → i ≡ File n x y a l → q ≡ part a l → PartTold s (name_of (item_at s p)) (name_start p (item_at s p)) q
     unfolding name_of name_start
     name_of_lem i n x y a l f g h =
-        let w = place_of (File n x y a l) (f ∙ ap FoundItem g) in
-        told_at name_of (name_start p) (answer (f ∙ ap FoundItem g)) (rw h (record { start = ap (λ y. y.start) w; long = ap (λ y. y.length) w; bytes = refl }))
+        let w = place_of (File n x y a l) (f ∙ ap (λ y. Ok (Some y)) g) in
+        told_at name_of (name_start p) (answer (f ∙ ap (λ y. Ok (Some y)) g)) (rw h (record { start = ap (λ y. y.start) w; long = ap (λ y. y.length) w; bytes = refl }))
 
-    pub name_none : (i : Found) (n : ℕ) (d : Header) (c a l : ℕ) → r ≡ FoundItem i → i ≡ Record n d c a l → q ≡ part 0 0 → PartTold s (name_of (item_at s p)) (name_start p (item_at s p)) q
+    pub name_none : (i : Found) (n : ℕ) (d : Header) (c a l : ℕ) → r ≡ Ok (Some i) → i ≡ Record n d c a l → q ≡ part 0 0 → PartTold s (name_of (item_at s p)) (name_start p (item_at s p)) q
     unfolding name_of name_start
-    name_none i n d c a l f g h = told_at name_of (name_start p) (answer (f ∙ ap FoundItem g)) (nothing_told s h)
+    name_none i n d c a l f g h = told_at name_of (name_start p) (answer (f ∙ ap (λ y. Ok (Some y)) g)) (nothing_told s h)
 
-    pub name_end : r ≡ End → q ≡ part 0 0 → PartTold s (name_of (item_at s p)) (name_start p (item_at s p)) q
+    pub name_end : r ≡ Ok None → q ≡ part 0 0 → PartTold s (name_of (item_at s p)) (name_start p (item_at s p)) q
     unfolding name_of name_start
     name_end f h = none_at name_of (name_start p) end (answer f) refl refl h
 
-    pub name_refused : (f : Refusal) → r ≡ Refused f → q ≡ part 0 0 → PartTold s (name_of (item_at s p)) (name_start p (item_at s p)) q
+    pub name_refused : (f : Refusal) → r ≡ Err f → q ≡ part 0 0 → PartTold s (name_of (item_at s p)) (name_start p (item_at s p)) q
     unfolding name_of name_start
     name_refused f g h = refused_at name_of (name_start p) f g (λ k n. (refl, refl)) (λ j k n. (refl, refl)) h
 
-    pub address_of_lem : (i : Found) (n : ℕ) (d : Header) (c a l : ℕ) → r ≡ FoundItem i → i ≡ Record n d c a l → {b : ℕ} → b ≡ (address_part d a).start → q ≡ part b d.address
+    pub address_of_lem : (i : Found) (n : ℕ) (d : Header) (c a l : ℕ) → r ≡ Ok (Some i) → i ≡ Record n d c a l → {b : ℕ} → b ≡ (address_part d a).start → q ≡ part b d.address
         → PartTold s (address_told (item_at s p)) (address_at p (item_at s p)) q
     unfolding address_told head_meant
     address_of_lem i n d c a l f g k h =
-        let w = address_place (Record n d c a l) (f ∙ ap FoundItem g) in
-        told_at address_told (address_at p) (answer (f ∙ ap FoundItem g))
+        let w = address_place (Record n d c a l) (f ∙ ap (λ y. Ok (Some y)) g) in
+        told_at address_told (address_at p) (answer (f ∙ ap (λ y. Ok (Some y)) g))
         (rw (h, k) (record { start = ap (λ y. y.start) w; long = ap (λ y. y.length) w; bytes = refl }))
 
-    pub address_none : (i : Found) (n x y a l : ℕ) → r ≡ FoundItem i → i ≡ File n x y a l → q ≡ part 0 0 → PartTold s (address_told (item_at s p)) (address_at p (item_at s p)) q
+    pub address_none : (i : Found) (n x y a l : ℕ) → r ≡ Ok (Some i) → i ≡ File n x y a l → q ≡ part 0 0 → PartTold s (address_told (item_at s p)) (address_at p (item_at s p)) q
     unfolding address_told
-    address_none i n x y a l f g h = told_at address_told (address_at p) (answer (f ∙ ap FoundItem g)) (nothing_told s h)
+    address_none i n x y a l f g h = told_at address_told (address_at p) (answer (f ∙ ap (λ y. Ok (Some y)) g)) (nothing_told s h)
 
-    pub address_end : r ≡ End → q ≡ part 0 0 → PartTold s (address_told (item_at s p)) (address_at p (item_at s p)) q
+    pub address_end : r ≡ Ok None → q ≡ part 0 0 → PartTold s (address_told (item_at s p)) (address_at p (item_at s p)) q
     unfolding address_told
     address_end f h = none_at address_told (address_at p) end (answer f) refl refl h
 
-    pub address_refused : (f : Refusal) → r ≡ Refused f → q ≡ part 0 0 → PartTold s (address_told (item_at s p)) (address_at p (item_at s p)) q
+    pub address_refused : (f : Refusal) → r ≡ Err f → q ≡ part 0 0 → PartTold s (address_told (item_at s p)) (address_at p (item_at s p)) q
     unfolding address_told
     address_refused f g h = refused_at address_told (address_at p) f g (λ k n. (refl, refl)) (λ j k n. (refl, refl)) h
 

@@ -1,4 +1,5 @@
 -- A refusal's number is never 0, no field of a token is left out, and stages are read back. Assumes nothing.
+use Rattle.std.specs.Prelude.{Err}
 use mathlib.Core.Path.{◌≡◌, refl, sym, ap, ◌∙◌}
 use mathlib.Core.Bool.{Bool, true, false}
 use mathlib.Core.Logic.{◌≢◌, inl, inr, ⊎_elim}
@@ -31,7 +32,6 @@ use Rattle.bsm_bytes.specs.Write.{Draft, code, Reply, wrote, denied, answer_in, 
 use Rattle.bsm_draft.specs.Given.{token_draft}
 use Rattle.bsm_draft.specs.Items.{file_draft, record_draft}
 use Rattle.bsm_draft.specs.Demands.{Among}
-use Rattle.bsm_bytes.specs.declared.answer.WriteAnswer.TheVariants.{Refused}
 use Rattle.bsm_draft.proofs.Refusals.{token_refusals, file_refusals, record_refusals}
 use Rattle.bsm_listing.specs.Line.{item_line}
 use Rattle.bsm_listing.specs.Listing.{Cursor, first, at_state, done}
@@ -194,7 +194,7 @@ unfolding flat_written
 wrote_some (wrote n) r h f z = ap (λ y. wrote y.written) (sym f)
 wrote_some (denied k q n) r h f z = absurd (h k q n refl (sym (ap (λ y. y.number) f) ∙ z))
 
-tells : (p : Draft) → ((d d' : List ℕ) (f : Refusal) → Written p d d' (Refused f) → f.number ≢ 0) → Tells p
+tells : (p : Draft) → ((d d' : List ℕ) (f : Refusal) → Written p d d' (Err f) → f.number ≢ 0) → Tells p
 tells p h d d' r x z =
     wrote_some (answer_in (length d) p) r
     (λ k q n e. h d d' (record { number = k; place = q; need = n }) (record { answer = sym e; left = x.left })) x.answer z

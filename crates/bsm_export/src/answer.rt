@@ -3,7 +3,6 @@ ghost use Rattle.std.specs.Prelude.{◌≡◌};
 ghost use Rattle.bsm_bytes.specs.Write.{answer_meant};
 ghost use Rattle.bsm_export.specs.Written.{flat_written};
 
-use bsm_bytes::answer::WriteAnswer;
 use bsm_token::refusal::Refusal;
 
 // How many bytes were written, or tokens counted; or the refusal. `number` is 0 where nothing was refused.
@@ -39,11 +38,11 @@ pub(crate) fn answer_of(written: usize, f: Refusal) -> BsmWritten
 }
 
 // A writer's answer.
-pub(crate) fn flat(a: WriteAnswer) -> BsmWritten
+pub(crate) fn flat(a: Result<usize, Refusal>) -> BsmWritten
     ensures { result ≡ flat_written (answer_meant a) }
 {
     match a {
-        WriteAnswer::Wrote(n) => answer_of(n, no_refusal()),
-        WriteAnswer::Refused(f) => answer_of(0, f),
+        Ok(n) => answer_of(n, no_refusal()),
+        Err(f) => answer_of(0, f),
     }
 }

@@ -21,7 +21,7 @@ fn before(item: BsmItem, place: usize) -> BsmBefore
     ensures { result ≡ record { item = item; place = place } }
 {
     BsmBefore {
-        item: item,
+        item,
         place: place as u64,
     }
 }
@@ -32,18 +32,18 @@ pub extern "C" fn bsm_record_before(trail: &[u8], place: usize) -> BsmBefore
     ensures { result ≡ flat_back place (located_back (record_before trail.now place)) }
 {
     match record_before(trail, place) {
-        Before::Record { item, place: start } => before(found_item(item), start),
-        Before::Boundary { need } => before(
+        Ok(Before::Record { item, place: start }) => before(found_item(item), start),
+        Ok(Before::Boundary { need }) => before(
             no_item(
                 4,
                 Refusal {
                     number: 0,
                     place: 0,
-                    need: need,
+                    need,
                 },
             ),
             place,
         ),
-        Before::Refused(f) => before(no_item(3, f), place),
+        Err(f) => before(no_item(3, f), place),
     }
 }

@@ -1,11 +1,13 @@
 // Writers of expanded tokens: their addresses come as bytes.
+#![tactic(auto, using(crate::proofs::Answers::exported))]
+
 ghost use Rattle.std.specs.Prelude.{[], ◌∷◌};
 ghost use Rattle.bsm_token.specs.Names.{in_addr_ex_token, process32_ex_token, process64_ex_token, subject32_ex_token, subject64_ex_token};
 ghost use Rattle.bsm_draft.specs.Given.{an_address, token_draft};
 ghost use Rattle.bsm_export.specs.Written.{Exported};
 
 use crate::answer::{BsmWritten, flat};
-use bsm_token::kind::{PartyEx32, PartyEx64};
+use bsm_token::kind::PartyEx;
 use bsm_write::expanded::{
     write_in_addr_ex, write_process32_ex, write_process64_ex, write_subject32_ex,
     write_subject64_ex,
@@ -28,15 +30,15 @@ pub extern "C" fn bsm_write_subject32_ex(
 {
     flat(write_subject32_ex(
         dst,
-        PartyEx32 {
-            audit: audit,
-            effective_user: effective_user,
-            effective_group: effective_group,
-            real_user: real_user,
-            real_group: real_group,
-            process: process,
-            session: session,
-            port: port,
+        PartyEx {
+            audit,
+            effective_user,
+            effective_group,
+            real_user,
+            real_group,
+            process,
+            session,
+            port,
         },
         address,
     ))
@@ -59,15 +61,15 @@ pub extern "C" fn bsm_write_process32_ex(
 {
     flat(write_process32_ex(
         dst,
-        PartyEx32 {
-            audit: audit,
-            effective_user: effective_user,
-            effective_group: effective_group,
-            real_user: real_user,
-            real_group: real_group,
-            process: process,
-            session: session,
-            port: port,
+        PartyEx {
+            audit,
+            effective_user,
+            effective_group,
+            real_user,
+            real_group,
+            process,
+            session,
+            port,
         },
         address,
     ))
@@ -90,15 +92,15 @@ pub extern "C" fn bsm_write_subject64_ex(
 {
     flat(write_subject64_ex(
         dst,
-        PartyEx64 {
-            audit: audit,
-            effective_user: effective_user,
-            effective_group: effective_group,
-            real_user: real_user,
-            real_group: real_group,
-            process: process,
-            session: session,
-            port: port,
+        PartyEx {
+            audit,
+            effective_user,
+            effective_group,
+            real_user,
+            real_group,
+            process,
+            session,
+            port,
         },
         address,
     ))
@@ -121,15 +123,15 @@ pub extern "C" fn bsm_write_process64_ex(
 {
     flat(write_process64_ex(
         dst,
-        PartyEx64 {
-            audit: audit,
-            effective_user: effective_user,
-            effective_group: effective_group,
-            real_user: real_user,
-            real_group: real_group,
-            process: process,
-            session: session,
-            port: port,
+        PartyEx {
+            audit,
+            effective_user,
+            effective_group,
+            real_user,
+            real_group,
+            process,
+            session,
+            port,
         },
         address,
     ))

@@ -6,11 +6,11 @@ ghost use Rattle.bsm_index.specs.Meaning.{found_at};
 ghost use Rattle.bsm_export.specs.Items.{state_at};
 ghost use Rattle.bsm_export.specs.Index.{FillTold, found_numbers};
 
-use crate::item::{BsmItem, item_numbers};
+use crate::answer::no_refusal;
+use crate::item::{BsmItem, found_item, no_item};
 use crate::state::{BsmOutcome, run_numbers};
 use bsm_index::fill::fill;
-use bsm_index::find::{Found, find_record};
-use bsm_item::item::ItemRead;
+use bsm_index::find::find_record;
 use bsm_item::state::State;
 
 // What a fill came to: the run or its refusal, and how many entries all records up to the run's end have.
@@ -41,9 +41,9 @@ pub extern "C" fn bsm_fill_index(
     ensures { FillTold (fill_of trail.now (state_at place records files) table.old) table.new result }
 {
     let state = State {
-        place: place,
-        records: records,
-        files: files,
+        place,
+        records,
+        files,
     };
     let filled = fill(trail, state, table);
     BsmFilled {
@@ -56,7 +56,7 @@ fn found(item: BsmItem, place: usize) -> BsmFound
     ensures { result ≡ record { item = item; place = place } }
 {
     BsmFound {
-        item: item,
+        item,
         place: place as u64,
     }
 }
@@ -67,8 +67,8 @@ pub extern "C" fn bsm_find_record(trail: &[u8], table: &[u64], count: usize, n: 
     ensures { result ≡ found_numbers (found_at (find_record trail.now table.now count n)) }
 {
     match find_record(trail, table, count, n) {
-        Found::Record { item, place } => found(item_numbers(ItemRead::Found(item)), place),
-        Found::End => found(item_numbers(ItemRead::End), 0),
-        Found::Refused(f) => found(item_numbers(ItemRead::Refused(f)), 0),
+        Ok(Some(record)) => found(found_item(record.item), record.place),
+        Ok(None) => found(no_item(0, no_refusal()), 0),
+        Err(f) => found(no_item(3, f), 0),
     }
 }

@@ -5,7 +5,7 @@ ghost use Rattle.bsm_item.specs.Meaning.{address_part, item_meant, part_meant, a
 ghost use Rattle.bsm_export.specs.Items.{found_item, no_item, flat_found, flat_item, PartTold, body_of, body_start, name_of, name_start, address_told, address_at};
 
 use crate::answer::no_refusal;
-use bsm_item::item::{Header, Item, ItemRead};
+use bsm_item::item::{Header, Item};
 use bsm_item::read::{address_start, item_at};
 use bsm_token::refusal::Refusal;
 
@@ -124,23 +124,16 @@ pub(crate) fn found_item(item: Item) -> BsmItem
     }
 }
 
-// An answer, whatever the trail.
-pub(crate) fn item_numbers(r: ItemRead) -> BsmItem
-    ensures { (s : List ℕ) → result ≡ flat_item (read_meant s r) }
-{
-    match r {
-        ItemRead::Found(item) => found_item(item),
-        ItemRead::End => no_item(0, no_refusal()),
-        ItemRead::Refused(f) => no_item(3, f),
-    }
-}
-
 // The answer at a place of a trail.
 #[unsafe(no_mangle)]
 pub extern "C" fn bsm_item_at(trail: &[u8], place: usize) -> BsmItem
     ensures { result ≡ flat_item (located place (item_at trail.now place)) }
 {
-    item_numbers(item_at(trail, place))
+    match item_at(trail, place) {
+        Ok(Some(item)) => found_item(item),
+        Ok(None) => no_item(0, no_refusal()),
+        Err(f) => no_item(3, f),
+    }
 }
 
 // The part of n bytes from a place on.
@@ -159,24 +152,10 @@ pub extern "C" fn bsm_body_at(trail: &[u8], place: usize) -> BsmPart
     ensures { PartTold trail.now (body_of (item_at trail.now place)) (body_start place (item_at trail.now place)) result }
 {
     match item_at(trail, place) {
-        ItemRead::Found(item) => match item {
-            Item::File {
-                size: _,
-                seconds: _,
-                microseconds: _,
-                start: _,
-                length: _,
-            } => part(0, 0),
-            Item::Record {
-                size: _,
-                header: _,
-                tokens: _,
-                start,
-                length,
-            } => part(start, length),
-        },
-        ItemRead::End => part(0, 0),
-        ItemRead::Refused(_) => part(0, 0),
+        Ok(Some(Item::Record { start, length, .. })) => part(start, length),
+        Ok(Some(Item::File { .. })) => part(0, 0),
+        Ok(None) => part(0, 0),
+        Err(_) => part(0, 0),
     }
 }
 
@@ -186,24 +165,10 @@ pub extern "C" fn bsm_name_at(trail: &[u8], place: usize) -> BsmPart
     ensures { PartTold trail.now (name_of (item_at trail.now place)) (name_start place (item_at trail.now place)) result }
 {
     match item_at(trail, place) {
-        ItemRead::Found(item) => match item {
-            Item::File {
-                size: _,
-                seconds: _,
-                microseconds: _,
-                start,
-                length,
-            } => part(start, length),
-            Item::Record {
-                size: _,
-                header: _,
-                tokens: _,
-                start: _,
-                length: _,
-            } => part(0, 0),
-        },
-        ItemRead::End => part(0, 0),
-        ItemRead::Refused(_) => part(0, 0),
+        Ok(Some(Item::File { start, length, .. })) => part(start, length),
+        Ok(Some(Item::Record { .. })) => part(0, 0),
+        Ok(None) => part(0, 0),
+        Err(_) => part(0, 0),
     }
 }
 
@@ -213,23 +178,11 @@ pub extern "C" fn bsm_address_at(trail: &[u8], place: usize) -> BsmPart
     ensures { PartTold trail.now (address_told (item_at trail.now place)) (address_at place (item_at trail.now place)) result }
 {
     match item_at(trail, place) {
-        ItemRead::Found(item) => match item {
-            Item::File {
-                size: _,
-                seconds: _,
-                microseconds: _,
-                start: _,
-                length: _,
-            } => part(0, 0),
-            Item::Record {
-                size: _,
-                header,
-                tokens: _,
-                start,
-                length: _,
-            } => part(address_start(header, start), header.address as usize),
-        },
-        ItemRead::End => part(0, 0),
-        ItemRead::Refused(_) => part(0, 0),
+        Ok(Some(Item::Record { header, start, .. })) => {
+            part(address_start(header, start), header.address as usize)
+        }
+        Ok(Some(Item::File { .. })) => part(0, 0),
+        Ok(None) => part(0, 0),
+        Err(_) => part(0, 0),
     }
 }

@@ -11,7 +11,6 @@ ghost use Rattle.bsm_export.specs.Written.{Exported};
 ghost use Rattle.bsm_export.specs.Lines.{ItemLined, last_draft, cursor_from, flat_listing, PartListed};
 
 use crate::answer::{BsmWritten, answer_of, flat, no_refusal};
-use bsm_item::item::ItemRead;
 use bsm_item::read::item_at;
 use bsm_item::state::State;
 use bsm_listing::line::{first_line, item_line, last_line};
@@ -43,9 +42,9 @@ pub extern "C" fn bsm_item_line(dst: &mut [u8], trail: &[u8], place: usize) -> B
     ensures { ItemLined trail.now place dst.old dst.new result }
 {
     match item_at(trail, place) {
-        ItemRead::Found(item) => flat(item_line(dst, place, item)),
-        ItemRead::End => answer_of(0, no_refusal()),
-        ItemRead::Refused(f) => answer_of(0, f),
+        Ok(Some(item)) => flat(item_line(dst, place, item)),
+        Ok(None) => answer_of(0, no_refusal()),
+        Err(f) => answer_of(0, f),
     }
 }
 
@@ -61,9 +60,9 @@ pub extern "C" fn bsm_last_line(
     ensures { Exported (last_draft (stop_of (plain trail.now (state_at place records files)))) dst.old dst.new result }
 {
     let state = State {
-        place: place,
-        records: records,
-        files: files,
+        place,
+        records,
+        files,
     };
     flat(last_line(dst, state.run(trail)))
 }
@@ -118,9 +117,9 @@ pub extern "C" fn bsm_list(
     ensures { PartListed (lines_of trail.now (length out.old) (cursor_from stage (state_at place records files))) out.old out.new result }
 {
     let state = State {
-        place: place,
-        records: records,
-        files: files,
+        place,
+        records,
+        files,
     };
     listed(list_part(trail, cursor_of(stage, state), out))
 }

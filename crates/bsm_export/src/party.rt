@@ -1,11 +1,13 @@
 // Writers of subject and process tokens, the port of 4 or of 8 bytes.
+#![tactic(auto, using(crate::proofs::Answers::exported))]
+
 ghost use Rattle.std.specs.Prelude.{[], ◌∷◌};
 ghost use Rattle.bsm_token.specs.Names.{process32_token, process64_token, subject32_token, subject64_token};
 ghost use Rattle.bsm_draft.specs.Given.{nothing, token_draft};
 ghost use Rattle.bsm_export.specs.Written.{Exported};
 
 use crate::answer::{BsmWritten, flat};
-use bsm_token::kind::{Party32, Party64};
+use bsm_token::kind::Party;
 use bsm_write::simple::{write_process32, write_process64, write_subject32, write_subject64};
 
 #[unsafe(no_mangle)]
@@ -25,16 +27,16 @@ pub extern "C" fn bsm_write_subject32(
 {
     flat(write_subject32(
         dst,
-        Party32 {
-            audit: audit,
-            effective_user: effective_user,
-            effective_group: effective_group,
-            real_user: real_user,
-            real_group: real_group,
-            process: process,
-            session: session,
-            port: port,
-            address: address,
+        Party {
+            audit,
+            effective_user,
+            effective_group,
+            real_user,
+            real_group,
+            process,
+            session,
+            port,
+            address,
         },
     ))
 }
@@ -56,16 +58,16 @@ pub extern "C" fn bsm_write_process32(
 {
     flat(write_process32(
         dst,
-        Party32 {
-            audit: audit,
-            effective_user: effective_user,
-            effective_group: effective_group,
-            real_user: real_user,
-            real_group: real_group,
-            process: process,
-            session: session,
-            port: port,
-            address: address,
+        Party {
+            audit,
+            effective_user,
+            effective_group,
+            real_user,
+            real_group,
+            process,
+            session,
+            port,
+            address,
         },
     ))
 }
@@ -87,16 +89,16 @@ pub extern "C" fn bsm_write_subject64(
 {
     flat(write_subject64(
         dst,
-        Party64 {
-            audit: audit,
-            effective_user: effective_user,
-            effective_group: effective_group,
-            real_user: real_user,
-            real_group: real_group,
-            process: process,
-            session: session,
-            port: port,
-            address: address,
+        Party {
+            audit,
+            effective_user,
+            effective_group,
+            real_user,
+            real_group,
+            process,
+            session,
+            port,
+            address,
         },
     ))
 }
@@ -118,16 +120,16 @@ pub extern "C" fn bsm_write_process64(
 {
     flat(write_process64(
         dst,
-        Party64 {
-            audit: audit,
-            effective_user: effective_user,
-            effective_group: effective_group,
-            real_user: real_user,
-            real_group: real_group,
-            process: process,
-            session: session,
-            port: port,
-            address: address,
+        Party {
+            audit,
+            effective_user,
+            effective_group,
+            real_user,
+            real_group,
+            process,
+            session,
+            port,
+            address,
         },
     ))
 }

@@ -6,8 +6,8 @@ ghost use Rattle.bsm_export.specs.Written.{Exported};
 
 use crate::answer::{BsmWritten, flat};
 use bsm_draft::header::HeaderFields;
-use bsm_record::record::{write_record32, write_record32_ex, write_record64, write_record64_ex};
 use bsm_write::file::write_file;
+use bsm_write::record::{write_record32, write_record32_ex, write_record64, write_record64_ex};
 
 #[unsafe(no_mangle)]
 pub extern "C" fn bsm_write_file(

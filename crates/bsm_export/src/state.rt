@@ -5,9 +5,8 @@ ghost use Rattle.bsm_item.specs.Meaning.{state_meant, step_at, run_meant};
 ghost use Rattle.bsm_export.specs.Items.{state_at, step_with, outcome_with, flat_step, flat_outcome};
 
 use crate::answer::no_refusal;
-use crate::item::{BsmItem, item_numbers};
-use bsm_item::item::ItemRead;
-use bsm_item::state::{Ending, Run, State, Step};
+use crate::item::{BsmItem, found_item, no_item};
+use bsm_item::state::{Run, State};
 use bsm_token::refusal::Refusal;
 
 // The answer at a state, and the state after it: only an item moves it.
@@ -36,7 +35,7 @@ fn step(item: BsmItem, state: State) -> BsmStep
     ensures { result ≡ step_with item (state_meant state) }
 {
     BsmStep {
-        item: item,
+        item,
         place: state.place as u64,
         records: state.records as u64,
         files: state.files as u64,
@@ -63,8 +62,8 @@ pub(crate) fn run_numbers(run: Run) -> BsmOutcome
     let last = run.state;
     let ending = run.ending;
     match ending {
-        Ending::End => outcome(last, no_refusal()),
-        Ending::Refused(f) => outcome(last, f),
+        Ok(()) => outcome(last, no_refusal()),
+        Err(f) => outcome(last, f),
     }
 }
 
@@ -74,14 +73,14 @@ pub extern "C" fn bsm_next(trail: &[u8], place: usize, records: usize, files: us
     ensures { result ≡ flat_step (step_at trail.now (state_at place records files)) }
 {
     let state = State {
-        place: place,
-        records: records,
-        files: files,
+        place,
+        records,
+        files,
     };
     match state.next(trail) {
-        Step::Item(item, after) => step(item_numbers(ItemRead::Found(item)), after),
-        Step::End => step(item_numbers(ItemRead::End), state),
-        Step::Refused(f) => step(item_numbers(ItemRead::Refused(f)), state),
+        Ok(Some((item, after))) => step(found_item(item), after),
+        Ok(None) => step(no_item(0, no_refusal()), state),
+        Err(f) => step(no_item(3, f), state),
     }
 }
 
@@ -91,9 +90,9 @@ pub extern "C" fn bsm_run(trail: &[u8], place: usize, records: usize, files: usi
     ensures { result ≡ flat_outcome (stop_of (plain trail.now (state_at place records files))) }
 {
     let state = State {
-        place: place,
-        records: records,
-        files: files,
+        place,
+        records,
+        files,
     };
     run_numbers(state.run(trail))
 }

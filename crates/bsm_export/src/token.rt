@@ -7,7 +7,7 @@ ghost use Rattle.bsm_export.specs.Written.{flat_walk};
 
 use crate::answer::{BsmWritten, answer_of, no_refusal};
 use crate::item::BsmPart;
-use bsm_token::body::{BodyRead, walk_body};
+use bsm_token::body::walk_body;
 use bsm_token::flat::{FlatToken, flat_at};
 use bsm_token::text::has_string;
 
@@ -45,7 +45,7 @@ pub extern "C" fn bsm_walk_body(body: &[u8]) -> BsmWritten
     ensures { result ≡ flat_walk (walk body.now) }
 {
     match walk_body(body) {
-        BodyRead::Tokens(n) => answer_of(n, no_refusal()),
-        BodyRead::Refused(f) => answer_of(0, f),
+        Ok(n) => answer_of(n, no_refusal()),
+        Err(f) => answer_of(0, f),
     }
 }

@@ -1,11 +1,11 @@
 // A file token and records: writing them.
 use crate::read::count;
-use bsm_bytes::answer::WriteAnswer;
 use bsm_draft::header::HeaderFields;
-use bsm_record::record::{write_record32, write_record32_ex, write_record64, write_record64_ex};
-use bsm_token::body::{BodyRead, walk_body};
+use bsm_token::body::walk_body;
 use bsm_token::part::{part, rest};
+use bsm_token::refusal::Refusal;
 use bsm_write::file::write_file;
+use bsm_write::record::{write_record32, write_record32_ex, write_record64, write_record64_ex};
 use std::io;
 
 fn header() -> HeaderFields {
@@ -21,8 +21,8 @@ fn header() -> HeaderFields {
 // The tokens of a body up to its second subject, where a walk refuses it.
 fn with_one(body: &[u8]) -> &[u8] {
     match walk_body(body) {
-        BodyRead::Tokens(_) => body,
-        BodyRead::Refused(f) => part(body, 0, f.place),
+        Ok(_) => body,
+        Err(f) => part(body, 0, f.place),
     }
 }
 
@@ -33,7 +33,7 @@ fn behind(body: &[u8]) -> &[u8] {
 
 // Writes a file token, a record without a body, or one of four records that share the tokens of a body, with a header and a subject of
 // another kind each.
-pub(crate) fn write_item(i: usize, dst: &mut [u8], body: &[u8]) -> WriteAnswer {
+pub(crate) fn write_item(i: usize, dst: &mut [u8], body: &[u8]) -> Result<usize, Refusal> {
     match i {
         0 => write_file(dst, 5, 7, b"a"),
         1 => write_record32(dst, header(), b""),

@@ -1,12 +1,12 @@
 // Printing what the readers answer.
 use crate::print::{hex, number};
-use bsm_bytes::answer::WriteAnswer;
 use bsm_item::item::{Item, ItemRead};
 use bsm_item::read::{address_of, body_of, item_at, name_of};
 use bsm_kinds::token::{Token, TokenRead, token_at};
-use bsm_token::kind::{IpHeader, Party32, Party64, PartyEx32, PartyEx64, Permissions};
+use bsm_token::kind::{IpHeader, Party, PartyEx, Permissions};
 use bsm_token::part::part;
 use bsm_token::refusal::Refusal;
+use std::fmt::Display;
 use std::io;
 
 pub(crate) fn refused(rt: &impl Print, f: Refusal) -> io::Result<()> {
@@ -21,25 +21,13 @@ fn three(rt: &impl Print, a: u64, b: u64, c: u64) -> io::Result<()> {
     print!(rt; " {a} {b} {c}")
 }
 
-fn party32(rt: &impl Print, p: Party32) -> io::Result<()> {
+fn party<P: Display + Drop>(rt: &impl Print, p: Party<P>) -> io::Result<()> {
     print!(rt; " {} {} {}", p.audit, p.effective_user, p.effective_group)?;
     print!(rt; " {} {} {}", p.real_user, p.real_group, p.process)?;
     print!(rt; " {} {} {}", p.session, p.port, p.address)
 }
 
-fn party64(rt: &impl Print, p: Party64) -> io::Result<()> {
-    print!(rt; " {} {} {}", p.audit, p.effective_user, p.effective_group)?;
-    print!(rt; " {} {} {}", p.real_user, p.real_group, p.process)?;
-    print!(rt; " {} {} {}", p.session, p.port, p.address)
-}
-
-fn party_ex32(rt: &impl Print, p: PartyEx32) -> io::Result<()> {
-    print!(rt; " {} {} {}", p.audit, p.effective_user, p.effective_group)?;
-    print!(rt; " {} {} {}", p.real_user, p.real_group, p.process)?;
-    print!(rt; " {} {}", p.session, p.port)
-}
-
-fn party_ex64(rt: &impl Print, p: PartyEx64) -> io::Result<()> {
+fn party_ex<P: Display + Drop>(rt: &impl Print, p: PartyEx<P>) -> io::Result<()> {
     print!(rt; " {} {} {}", p.audit, p.effective_user, p.effective_group)?;
     print!(rt; " {} {} {}", p.real_user, p.real_group, p.process)?;
     print!(rt; " {} {}", p.session, p.port)
@@ -65,7 +53,7 @@ fn fields(rt: &impl Print, t: Token) -> io::Result<()> {
             rt,
             length as u64,
         ),
-        Token::Subject32(p) | Token::Process32(p) => party32(rt, p),
+        Token::Subject32(p) | Token::Process32(p) => party(rt, p),
         Token::Return32 { error, value } => two(rt, error as u64, value as u64),
         Token::InAddr(address) => number(rt, address as u64),
         Token::Ip(h) => ip(rt, h),
@@ -86,13 +74,13 @@ fn fields(rt: &impl Print, t: Token) -> io::Result<()> {
             length,
         } => three(rt, argument as u64, value, length as u64),
         Token::Return64 { error, value } => two(rt, error as u64, value),
-        Token::Subject64(p) | Token::Process64(p) => party64(rt, p),
+        Token::Subject64(p) | Token::Process64(p) => party(rt, p),
         Token::Subject32Ex { party, length } | Token::Process32Ex { party, length } => {
-            party_ex32(rt, party)?;
+            party_ex(rt, party)?;
             number(rt, length as u64)
         }
         Token::Subject64Ex { party, length } | Token::Process64Ex { party, length } => {
-            party_ex64(rt, party)?;
+            party_ex(rt, party)?;
             number(rt, length as u64)
         }
         Token::InAddrEx { length } => number(rt, length as u64),
@@ -161,10 +149,10 @@ pub(crate) fn item_back(rt: &impl Print, trail: &[u8], place: usize) -> io::Resu
 }
 
 // How many bytes were written at a place; a refusal is printed.
-pub(crate) fn count(rt: &impl Print, answer: WriteAnswer) -> io::Result<usize> {
+pub(crate) fn count(rt: &impl Print, answer: Result<usize, Refusal>) -> io::Result<usize> {
     match answer {
-        WriteAnswer::Wrote(n) => Ok(n),
-        WriteAnswer::Refused(f) => {
+        Ok(n) => Ok(n),
+        Err(f) => {
             refused(rt, f)?;
             println!(rt)?;
             Ok(0)

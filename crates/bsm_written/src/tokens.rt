@@ -1,8 +1,8 @@
 // A token of each kind: writing it.
-use bsm_bytes::answer::WriteAnswer;
 use bsm_token::kind;
-use bsm_token::kind::{IpHeader, Party32, Party64, PartyEx32, PartyEx64, Permissions};
+use bsm_token::kind::{IpHeader, Party, PartyEx, Permissions};
 use bsm_token::part::part;
+use bsm_token::refusal::Refusal;
 use bsm_write::expanded::{
     write_in_addr_ex, write_process32_ex, write_process64_ex, write_subject32_ex,
     write_subject64_ex,
@@ -14,8 +14,11 @@ use bsm_write::simple::{
 use bsm_write::tail::{write_exec_args, write_exec_env, write_newgroups, write_opaque};
 use bsm_write::text::{write_arg32, write_arg64, write_path, write_text};
 
-fn party32() -> Party32 {
-    Party32 {
+// A port of 8 bytes.
+const WIDE: u64 = 0x0102030405060708;
+
+fn party<P>(port: P) -> Party<P> {
+    Party {
         audit: 1001,
         effective_user: 0,
         effective_group: 20,
@@ -23,13 +26,13 @@ fn party32() -> Party32 {
         real_group: 20,
         process: 4711,
         session: 4294967295,
-        port: 22,
+        port,
         address: 0xC0000201,
     }
 }
 
-fn party64() -> Party64 {
-    Party64 {
+fn party_ex<P>(port: P) -> PartyEx<P> {
+    PartyEx {
         audit: 1001,
         effective_user: 0,
         effective_group: 20,
@@ -37,34 +40,7 @@ fn party64() -> Party64 {
         real_group: 20,
         process: 4711,
         session: 4294967295,
-        port: 0x0102030405060708,
-        address: 0xC0000201,
-    }
-}
-
-fn party_ex32() -> PartyEx32 {
-    PartyEx32 {
-        audit: 1001,
-        effective_user: 0,
-        effective_group: 20,
-        real_user: 1001,
-        real_group: 20,
-        process: 4711,
-        session: 4294967295,
-        port: 22,
-    }
-}
-
-fn party_ex64() -> PartyEx64 {
-    PartyEx64 {
-        audit: 1001,
-        effective_user: 0,
-        effective_group: 20,
-        real_user: 1001,
-        real_group: 20,
-        process: 4711,
-        session: 4294967295,
-        port: 0x0102030405060708,
+        port,
     }
 }
 
@@ -96,24 +72,24 @@ fn permissions() -> Permissions {
 }
 
 // Writes an expanded token with this number; each length of an address has its turn.
-fn write_expanded(number: u8, dst: &mut [u8]) -> WriteAnswer {
+fn write_expanded(number: u8, dst: &mut [u8]) -> Result<usize, Refusal> {
     let long = b"\x20\x01\x0D\xB8\0\0\0\0\0\0\0\0\0\0\0\x01";
     let short = part(long, 0, 4);
     match number {
-        kind::SUBJECT32_EX => write_subject32_ex(dst, party_ex32(), short),
-        kind::PROCESS32_EX => write_process32_ex(dst, party_ex32(), long),
-        kind::SUBJECT64_EX => write_subject64_ex(dst, party_ex64(), long),
-        kind::PROCESS64_EX => write_process64_ex(dst, party_ex64(), short),
+        kind::SUBJECT32_EX => write_subject32_ex(dst, party_ex(22), short),
+        kind::PROCESS32_EX => write_process32_ex(dst, party_ex(22), long),
+        kind::SUBJECT64_EX => write_subject64_ex(dst, party_ex(WIDE), long),
+        kind::PROCESS64_EX => write_process64_ex(dst, party_ex(WIDE), short),
         _ => write_in_addr_ex(dst, long),
     }
 }
 
 // Writes a token with this number.
-pub(crate) fn write_kind(number: u8, dst: &mut [u8]) -> WriteAnswer {
+pub(crate) fn write_kind(number: u8, dst: &mut [u8]) -> Result<usize, Refusal> {
     match number {
         kind::PATH => write_path(dst, b"/etc/passwd"),
-        kind::SUBJECT32 => write_subject32(dst, party32()),
-        kind::PROCESS32 => write_process32(dst, party32()),
+        kind::SUBJECT32 => write_subject32(dst, party(22)),
+        kind::PROCESS32 => write_process32(dst, party(22)),
         kind::RETURN32 => write_return32(dst, 13, 4294967295),
         kind::TEXT => write_text(dst, b""),
         kind::OPAQUE => write_opaque(dst, b"\x13\xB1\x05\0\0\0\x1A"),
@@ -129,8 +105,8 @@ pub(crate) fn write_kind(number: u8, dst: &mut [u8]) -> WriteAnswer {
         kind::EXIT => write_exit(dst, 1, 2),
         kind::ARG64 => write_arg64(dst, 3, 18446744073709551615, b"offset"),
         kind::RETURN64 => write_return64(dst, 0, 256),
-        kind::SUBJECT64 => write_subject64(dst, party64()),
-        kind::PROCESS64 => write_process64(dst, party64()),
+        kind::SUBJECT64 => write_subject64(dst, party(WIDE)),
+        kind::PROCESS64 => write_process64(dst, party(WIDE)),
         _ => write_expanded(number, dst),
     }
 }

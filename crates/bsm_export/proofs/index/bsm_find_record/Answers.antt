@@ -1,12 +1,14 @@
+use mathlib.Core.Path.{ap, ◌∙◌}
+use Rattle.std.specs.Prelude.{Ok}
 use Rattle.bsm_export.proofs.Indexed.{found_record, found_end, found_refused}
 use borrow.Author.Rules.{rules}
 use Rattle.bsm_export.proofs.index.bsm_find_record.Goals as goal
 
-pub returns-in-Record : goal.returns-in-Record
-returns-in-Record c = search (found_record, rules)
+pub returns-in-Ok-Some : goal.returns-in-Ok-Some
+returns-in-Ok-Some c = search (found_record, c.in-Ok-Some.is ∙ ap Ok c.in-Ok-Some.field-0-is, rules)
 
-pub returns-in-End : goal.returns-in-End
-returns-in-End c = search (found_end, rules)
+pub returns-in-Ok-None : goal.returns-in-Ok-None
+returns-in-Ok-None c = search (found_end, c.in-Ok-None.is ∙ ap Ok c.in-Ok-None.field-0-is, rules)
 
-pub returns-in-Refused : goal.returns-in-Refused
-returns-in-Refused c = search (found_refused, rules)
+pub returns-in-Err : goal.returns-in-Err
+returns-in-Err c = search (found_refused, rules)

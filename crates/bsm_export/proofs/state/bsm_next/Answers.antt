@@ -1,12 +1,14 @@
+use mathlib.Core.Path.{ap, ◌∙◌}
+use Rattle.std.specs.Prelude.{Ok}
 use Rattle.bsm_export.proofs.States.{step_item, step_end, step_refused}
 use borrow.Author.Rules.{rules}
 use Rattle.bsm_export.proofs.state.bsm_next.Goals as goal
 
-pub returns-in-Item : goal.returns-in-Item
-returns-in-Item c = search (step_item, rules)
+pub returns-in-Ok-Some : goal.returns-in-Ok-Some
+returns-in-Ok-Some c = search (step_item, c.in-Ok-Some.is ∙ ap Ok c.in-Ok-Some.field-0-is, rules)
 
-pub returns-in-End : goal.returns-in-End
-returns-in-End c = search (step_end, rules)
+pub returns-in-Ok-None : goal.returns-in-Ok-None
+returns-in-Ok-None c = search (step_end, c.in-Ok-None.is ∙ ap Ok c.in-Ok-None.field-0-is, rules)
 
-pub returns-in-Refused : goal.returns-in-Refused
-returns-in-Refused c = search (step_refused, rules)
+pub returns-in-Err : goal.returns-in-Err
+returns-in-Err c = search (step_refused, rules)
