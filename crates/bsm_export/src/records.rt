@@ -36,11 +36,11 @@ pub extern "C" fn bsm_write_record32(
     flat(write_record32(
         dst,
         HeaderFields {
-            version: version,
-            event: event,
-            modifier: modifier,
-            seconds: seconds,
-            nanoseconds: nanoseconds,
+            version,
+            event,
+            modifier,
+            seconds,
+            nanoseconds,
         },
         body,
     ))
@@ -61,11 +61,11 @@ pub extern "C" fn bsm_write_record64(
     flat(write_record64(
         dst,
         HeaderFields {
-            version: version,
-            event: event,
-            modifier: modifier,
-            seconds: seconds,
-            nanoseconds: nanoseconds,
+            version,
+            event,
+            modifier,
+            seconds,
+            nanoseconds,
         },
         body,
     ))
@@ -87,11 +87,11 @@ pub extern "C" fn bsm_write_record32_ex(
     flat(write_record32_ex(
         dst,
         HeaderFields {
-            version: version,
-            event: event,
-            modifier: modifier,
-            seconds: seconds,
-            nanoseconds: nanoseconds,
+            version,
+            event,
+            modifier,
+            seconds,
+            nanoseconds,
         },
         address,
         body,
@@ -114,11 +114,11 @@ pub extern "C" fn bsm_write_record64_ex(
     flat(write_record64_ex(
         dst,
         HeaderFields {
-            version: version,
-            event: event,
-            modifier: modifier,
-            seconds: seconds,
-            nanoseconds: nanoseconds,
+            version,
+            event,
+            modifier,
+            seconds,
+            nanoseconds,
         },
         address,
         body,

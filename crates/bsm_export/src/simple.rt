@@ -72,16 +72,16 @@ pub extern "C" fn bsm_write_ip(
     flat(write_ip(
         dst,
         IpHeader {
-            version: version,
-            service: service,
-            length: length,
-            id: id,
-            offset: offset,
-            ttl: ttl,
-            protocol: protocol,
-            checksum: checksum,
-            source: source,
-            destination: destination,
+            version,
+            service,
+            length,
+            id,
+            offset,
+            ttl,
+            protocol,
+            checksum,
+            source,
+            destination,
         },
     ))
 }
@@ -102,13 +102,13 @@ pub extern "C" fn bsm_write_ipc_perm(
     flat(write_ipc_perm(
         dst,
         Permissions {
-            user: user,
-            group: group,
-            creator_user: creator_user,
-            creator_group: creator_group,
-            mode: mode,
-            sequence: sequence,
-            key: key,
+            user,
+            group,
+            creator_user,
+            creator_group,
+            mode,
+            sequence,
+            key,
         },
     ))
 }
