@@ -1,8 +1,8 @@
 // Printing what the readers answer.
 use crate::print::{hex, number};
-use bsm_item::item::{Item, ItemRead};
+use bsm_item::item::Item;
 use bsm_item::read::{address_of, body_of, item_at, name_of};
-use bsm_kinds::token::{Token, TokenRead, token_at};
+use bsm_kinds::token::{Token, TokenFound, token_at};
 use bsm_token::kind::{IpHeader, Party, PartyEx, Permissions};
 use bsm_token::part::part;
 use bsm_token::refusal::Refusal;
@@ -91,18 +91,22 @@ fn fields(rt: &impl Print, t: Token) -> io::Result<()> {
 pub(crate) fn token_back(rt: &impl Print, body: &[u8], at: usize) -> io::Result<()> {
     print!(rt; "  read")?;
     match token_at(body, at) {
-        TokenRead::Found {
-            token,
-            start,
-            length,
-            size,
-        } => {
+        Ok(
+            Some(
+                TokenFound {
+                    token,
+                    start,
+                    length,
+                    size,
+                },
+            ),
+        ) => {
             print!(rt; " {size}:")?;
             fields(rt, token)?;
             hex(rt, part(body, start, length))?;
         }
-        TokenRead::End => print!(rt; " end")?,
-        TokenRead::Refused(f) => refused(rt, f)?,
+        Ok(None) => print!(rt; " end")?,
+        Err(f) => refused(rt, f)?,
     }
     println!(rt)
 }
@@ -141,9 +145,9 @@ fn found(rt: &impl Print, trail: &[u8], item: Item) -> io::Result<()> {
 pub(crate) fn item_back(rt: &impl Print, trail: &[u8], place: usize) -> io::Result<()> {
     print!(rt; "  read")?;
     match item_at(trail, place) {
-        ItemRead::Found(item) => found(rt, trail, item)?,
-        ItemRead::End => print!(rt; " end")?,
-        ItemRead::Refused(f) => refused(rt, f)?,
+        Ok(Some(item)) => found(rt, trail, item)?,
+        Ok(None) => print!(rt; " end")?,
+        Err(f) => refused(rt, f)?,
     }
     println!(rt)
 }
