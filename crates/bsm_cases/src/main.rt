@@ -4,9 +4,9 @@
 // and no byte at all. The cases "ex" are of expanded headers and tokens; the bytes of their addresses are letters.
 #![tactic(auto)]
 
-use bsm_item::item::{Item, ItemRead};
+use bsm_item::item::Item;
 use bsm_item::read::{address_of, body_of, item_at, name_of};
-use bsm_item::state::{Ending, State};
+use bsm_item::state::State;
 use bsm_reader::past::{left_past, place_past};
 use bsm_reader::reader::read_at;
 use bsm_token::refusal::Refusal;
@@ -182,12 +182,12 @@ fn found(rt: &impl Print, trail: &[u8], item: Item) -> io::Result<()> {
     }
 }
 
-fn answer(rt: &impl Print, trail: &[u8], read: ItemRead) -> io::Result<()> {
+fn answer(rt: &impl Print, trail: &[u8], read: Result<Option<Item>, Refusal>) -> io::Result<()> {
     print!(rt; "\t")?;
     match read {
-        ItemRead::Found(item) => found(rt, trail, item)?,
-        ItemRead::End => print!(rt; "end")?,
-        ItemRead::Refused(f) => refused(rt, f)?,
+        Ok(Some(item)) => found(rt, trail, item)?,
+        Ok(None) => print!(rt; "end")?,
+        Err(f) => refused(rt, f)?,
     }
     println!(rt)
 }
@@ -212,8 +212,8 @@ fn whole(rt: &impl Print, name: &str, trail: &[u8]) -> io::Result<()> {
         state.place, state.records, state.files
     )?;
     match run.ending {
-        Ending::End => print!(rt; "end")?,
-        Ending::Refused(f) => refused(rt, f)?,
+        Ok(()) => print!(rt; "end")?,
+        Err(f) => refused(rt, f)?,
     }
     println!(rt)
 }
