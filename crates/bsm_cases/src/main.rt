@@ -4,14 +4,15 @@
 // and no byte at all. The cases "ex" are of expanded headers and tokens; the bytes of their addresses are letters.
 #![tactic(auto)]
 
-use bsm_item::item::Item;
+use bsm_item::item::{Header, Item};
 use bsm_item::read::{address_of, body_of, item_at, name_of};
 use bsm_item::state::State;
 use bsm_reader::past::{left_past, place_past};
 use bsm_reader::reader::read_at;
 use bsm_token::refusal::Refusal;
 use bsm_token::text::text_at;
-use std::io;
+use std::fmt::Display;
+use std::{fmt, io, str};
 
 // The trail of case 17.
 const LAST: &[u8] =
@@ -127,102 +128,158 @@ const EXPANDED: [(&str, &[u8]); 9] = [
     ),
 ];
 
-fn refused(rt: &impl Print, f: Refusal) -> io::Result<()> {
-    print!(rt; "refused\t{}\t{}\t{}", f.number, f.place, f.need)
+// The bytes of a text; those of the cases are all UTF-8.
+#[derive(Clone, Copy)]
+struct Text<'a>(&'a [u8]);
+
+impl<'a> Display for Text<'a> {
+    fn fmt<W: fmt::Write>(&self, f: &mut fmt::Formatter<W>) -> fmt::Result {
+        f.write_str(str::from_utf8(self.0).unwrap_or("not UTF-8"))
+    }
 }
 
-// Bytes between quotation marks.
-fn quoted(rt: &impl Print, bytes: &[u8]) -> io::Result<()> {
-    print!(rt; "\t\"")?;
-    rt.write_all(bytes)?;
-    print!(rt; "\"")
+#[derive(Clone, Copy)]
+struct Refused(Refusal);
+
+impl Display for Refused {
+    fn fmt<W: fmt::Write>(&self, f: &mut fmt::Formatter<W>) -> fmt::Result {
+        let Refusal {
+            number,
+            place,
+            need,
+        } = self.0;
+        write!(f, "refused\t{number}\t{place}\t{need}")
+    }
+}
+
+// The values of a record's header.
+#[derive(Clone, Copy)]
+struct Values(Header);
+
+impl Display for Values {
+    fn fmt<W: fmt::Write>(&self, f: &mut fmt::Formatter<W>) -> fmt::Result {
+        let h = self.0;
+        write!(f, "{}\t{}", h.number, h.version)?;
+        write!(f, "\t{}\t{}", h.event, h.modifier)?;
+        write!(f, "\t{}\t{}", h.seconds, h.nanoseconds)
+    }
 }
 
 // A record's body: its size, and the string of its first token.
-fn body(rt: &impl Print, b: &[u8]) -> io::Result<()> {
-    print!(rt; "\t{}", b.len())?;
-    quoted(rt, text_at(b, 0))
+#[derive(Clone, Copy)]
+struct Body<'a>(&'a [u8]);
+
+impl<'a> Display for Body<'a> {
+    fn fmt<W: fmt::Write>(&self, f: &mut fmt::Formatter<W>) -> fmt::Result {
+        write!(f, "{}\t\"{}\"", self.0.len(), Text(text_at(self.0, 0)))
+    }
 }
 
 // The address of an expanded header; nothing for another header.
-fn address(rt: &impl Print, a: &[u8]) -> io::Result<()> {
-    if a.is_empty() {
-        return Ok(());
-    }
-    quoted(rt, a)
-}
+#[derive(Clone, Copy)]
+struct Address<'a>(&'a [u8]);
 
-// An item: its size and fields, where its name or body stands, and the name or the body; then a header's address.
-fn found(rt: &impl Print, trail: &[u8], item: Item) -> io::Result<()> {
-    match item {
-        Item::File {
-            size,
-            seconds,
-            microseconds,
-            start,
-            length,
-        } => {
-            print!(rt; "file\t{size}\t{seconds}\t{microseconds}\t{start}\t{length}\t")?;
-            rt.write_all(name_of(trail, item))
+impl<'a> Display for Address<'a> {
+    fn fmt<W: fmt::Write>(&self, f: &mut fmt::Formatter<W>) -> fmt::Result {
+        if self.0.is_empty() {
+            return Ok(());
         }
-        Item::Record {
-            size,
-            header,
-            tokens,
-            start,
-            length,
-        } => {
-            print!(rt; "record\t{size}\t{}\t{}", header.number, header.version)?;
-            print!(rt; "\t{}\t{}", header.event, header.modifier)?;
-            print!(rt; "\t{}\t{}", header.seconds, header.nanoseconds)?;
-            print!(rt; "\t{tokens}\t{start}\t{length}")?;
-            body(rt, body_of(trail, item))?;
-            address(rt, address_of(trail, item))
-        }
+        write!(f, "\t\"{}\"", Text(self.0))
     }
 }
 
-fn answer(rt: &impl Print, trail: &[u8], read: Result<Option<Item>, Refusal>) -> io::Result<()> {
-    print!(rt; "\t")?;
-    match read {
-        Ok(Some(item)) => found(rt, trail, item)?,
-        Ok(None) => print!(rt; "end")?,
-        Err(f) => refused(rt, f)?,
+// An item of a trail: its size and fields, where its name or body stands, and the name or the body; then a header's address.
+#[derive(Clone, Copy)]
+struct Found<'a> {
+    trail: &'a [u8],
+    item: Item,
+}
+
+impl<'a> Display for Found<'a> {
+    fn fmt<W: fmt::Write>(&self, f: &mut fmt::Formatter<W>) -> fmt::Result {
+        let (trail, item) = (self.trail, self.item);
+        match item {
+            Item::File {
+                size,
+                seconds,
+                microseconds,
+                start,
+                length,
+            } => {
+                write!(
+                    f,
+                    "file\t{size}\t{seconds}\t{microseconds}\t{start}\t{length}"
+                )?;
+                write!(f, "\t{}", Text(name_of(trail, item)))
+            }
+            Item::Record {
+                size,
+                header,
+                tokens,
+                start,
+                length,
+            } => {
+                write!(
+                    f,
+                    "record\t{size}\t{}\t{tokens}\t{start}\t{length}",
+                    Values(header)
+                )?;
+                write!(
+                    f,
+                    "\t{}{}",
+                    Body(body_of(trail, item)),
+                    Address(address_of(trail, item))
+                )
+            }
+        }
     }
-    println!(rt)
+}
+
+// What a reader answers at a place of a trail.
+#[derive(Clone, Copy)]
+struct Answer<'a> {
+    trail: &'a [u8],
+    read: Result<Option<Item>, Refusal>,
+}
+
+impl<'a> Display for Answer<'a> {
+    fn fmt<W: fmt::Write>(&self, f: &mut fmt::Formatter<W>) -> fmt::Result {
+        let trail = self.trail;
+        match self.read {
+            Ok(Some(item)) => write!(f, "{}", Found { trail, item }),
+            Ok(None) => write!(f, "end"),
+            Err(refusal) => write!(f, "{}", Refused(refusal)),
+        }
+    }
 }
 
 // Two lines: the case's name and the answer at a place of its trail; and for a reader there, the place past the item, how many
 // bytes are left from it on, and the reader's answer.
 fn case(rt: &impl Print, name: &str, trail: &[u8], place: usize) -> io::Result<()> {
-    print!(rt; "{name}")?;
-    answer(rt, trail, item_at(trail, place))?;
+    let read = item_at(trail, place);
+    println!(rt; "{name}\t{}", Answer { trail, read })?;
     let past = place_past(trail, place);
     let left = left_past(trail, place);
-    print!(rt; "{name}\treader\t{past}\t{left}")?;
-    answer(rt, trail, read_at(trail, place))
+    let read = read_at(trail, place);
+    println!(rt;
+        "{name}\treader\t{past}\t{left}\t{}",
+        Answer { trail, read }
+    )
 }
 
 // One line: the case's name, and what a run from the fresh state hands back.
 fn whole(rt: &impl Print, name: &str, trail: &[u8]) -> io::Result<()> {
     let run = State::fresh().run(trail);
-    let state = run.state;
-    print!(rt;
-        "{name}\trun\t{}\t{}\t{}\t",
-        state.place, state.records, state.files
-    )?;
+    let State {
+        place,
+        records,
+        files,
+    } = run.state;
+    print!(rt; "{name}\trun\t{place}\t{records}\t{files}\t")?;
     match run.ending {
-        Ok(()) => print!(rt; "end")?,
-        Err(f) => refused(rt, f)?,
+        Ok(()) => println!(rt; "end"),
+        Err(refusal) => println!(rt; "{}", Refused(refusal)),
     }
-    println!(rt)
-}
-
-fn expanded(rt: &impl Print) -> io::Result<()> {
-    for (name, trail) in EXPANDED {
-        case(rt, name, trail, 0)?;
-    }
-    Ok(())
 }
 
 fn main(rt: HostRuntime) -> io::Result<()> {
@@ -230,5 +287,8 @@ fn main(rt: HostRuntime) -> io::Result<()> {
         case(&rt, name, trail, place)?;
     }
     whole(&rt, "17", LAST)?;
-    expanded(&rt)
+    for (name, trail) in EXPANDED {
+        case(&rt, name, trail, 0)?;
+    }
+    Ok(())
 }

@@ -1,5 +1,9 @@
 // A file token and records: writing them.
-use crate::read::count;
+ghost use Rattle.std.specs.Prelude.{◌≤◌, IfOk, length};
+
+use crate::print::{Layout, TRAILER};
+use crate::read::ItemAt;
+use crate::write::{count, put};
 use bsm_draft::header::HeaderFields;
 use bsm_token::body::walk_body;
 use bsm_token::part::{part, rest};
@@ -31,27 +35,97 @@ fn behind(body: &[u8]) -> &[u8] {
     rest(body, with_one(body).len())
 }
 
-// Writes a file token, a record without a body, or one of four records that share the tokens of a body, with a header and a subject of
-// another kind each.
-pub(crate) fn write_item(i: usize, dst: &mut [u8], body: &[u8]) -> Result<usize, Refusal> {
-    match i {
-        0 => write_file(dst, 5, 7, b"a"),
-        1 => write_record32(dst, header(), b""),
-        2 => write_record32(dst, header(), with_one(body)),
-        3 => write_record64(dst, header(), with_one(behind(body))),
-        4 => write_record32_ex(
-            dst,
-            header(),
-            b"\xC0\0\x02\x01",
-            with_one(behind(behind(body))),
-        ),
-        _ => write_record64_ex(
+// Writes an item at a place and prints what was written and what is read there; answers the place behind it.
+fn put_item<F: FnOnce(&mut [u8]) -> Result<usize, Refusal>>(
+    rt: &impl Print,
+    space: &mut [u8],
+    place: usize,
+    layout: Layout,
+    write: F,
+) -> io::Result<usize>
+    requires place { place ≤ length space.old }
+    requires callable { F.IsAlwaysCallable write }
+    ensures { IfOk result (λ end. end ≤ length space.new) }
+{
+    let end = put(rt, space, place, layout, write)?;
+    let trail = part(space, 0, end);
+    println!(rt; "  read{}", ItemAt { trail, place })?;
+    Ok(end)
+}
+
+// How a record with this header is printed.
+fn record<'a>(name: &'a str, widths: &'a [u8]) -> Layout<'a> {
+    Layout {
+        name,
+        widths,
+        trailer: TRAILER,
+    }
+}
+
+// A file token, a record without a body, and four records that share the tokens of a body, with a header and a subject of another kind
+// each, from a place of a buffer on.
+pub(crate) fn all_items(
+    rt: &impl Print,
+    space: &mut [u8],
+    from: usize,
+    body: &[u8],
+) -> io::Result<()>
+    requires { from ≤ length space.old }
+{
+    let file = Layout {
+        name: "file",
+        widths: &[1, 4, 4, 2],
+        trailer: 0,
+    };
+    let short = record("record32", &[1, 4, 1, 2, 2, 4, 4]);
+    let long = record("record64", &[1, 4, 1, 2, 2, 8, 8]);
+    let short_ex = record("record32_ex", &[1, 4, 1, 2, 2, 4, 4, 4, 4]);
+    let long_ex = record("record64_ex", &[1, 4, 1, 2, 2, 4, 16, 8, 8]);
+    let second = behind(body);
+    let third = behind(second);
+    let fourth = behind(third);
+    let at = put_item(rt, space, from, file, |dst| write_file(dst, 5, 7, b"a"))?;
+    let at = put_item(
+        rt,
+        space,
+        at,
+        short,
+        |dst| write_record32(dst, header(), b""),
+    )?;
+    let at = put_item(
+        rt,
+        space,
+        at,
+        short,
+        |dst| write_record32(dst, header(), with_one(body)),
+    )?;
+    let at = put_item(
+        rt,
+        space,
+        at,
+        long,
+        |dst| write_record64(dst, header(), with_one(second)),
+    )?;
+    let at = put_item(
+        rt,
+        space,
+        at,
+        short_ex,
+        |dst| write_record32_ex(dst, header(), b"\xC0\0\x02\x01", with_one(third)),
+    )?;
+    put_item(
+        rt,
+        space,
+        at,
+        long_ex,
+        |dst| write_record64_ex(
             dst,
             header(),
             b"\x20\x01\x0D\xB8\0\0\0\0\0\0\0\0\0\0\0\x01",
-            behind(behind(behind(body))),
+            fourth,
         ),
-    }
+    )?;
+    Ok(())
 }
 
 // Writes that are refused: an address of 5 bytes, and the whole body in one record.

@@ -1,165 +1,198 @@
 // Printing what the readers answer.
-use crate::print::{hex, number};
+use crate::print::Hex;
 use bsm_item::item::Item;
 use bsm_item::read::{address_of, body_of, item_at, name_of};
 use bsm_kinds::token::{Token, TokenFound, token_at};
 use bsm_token::kind::{IpHeader, Party, PartyEx, Permissions};
 use bsm_token::part::part;
 use bsm_token::refusal::Refusal;
+use std::fmt;
 use std::fmt::Display;
-use std::io;
 
-pub(crate) fn refused(rt: &impl Print, f: Refusal) -> io::Result<()> {
-    print!(rt; "refused {} {} {}", f.number, f.place, f.need)
+#[derive(Clone, Copy)]
+pub(crate) struct Refused(pub(crate) Refusal);
+
+impl Display for Refused {
+    fn fmt<W: fmt::Write>(&self, f: &mut fmt::Formatter<W>) -> fmt::Result {
+        let Refusal {
+            number,
+            place,
+            need,
+        } = self.0;
+        write!(f, "refused {number} {place} {need}")
+    }
 }
 
-fn two(rt: &impl Print, a: u64, b: u64) -> io::Result<()> {
-    print!(rt; " {a} {b}")
+// The fields of a token, or of a struct in it, in the order of its layout.
+#[derive(Clone, Copy)]
+struct Fields<T>(T);
+
+impl<P: Display + Copy> Display for Fields<Party<P>> {
+    fn fmt<W: fmt::Write>(&self, f: &mut fmt::Formatter<W>) -> fmt::Result {
+        let p = self.0;
+        write!(f, " {} {} {}", p.audit, p.effective_user, p.effective_group)?;
+        write!(f, " {} {} {}", p.real_user, p.real_group, p.process)?;
+        write!(f, " {} {} {}", p.session, p.port, p.address)
+    }
 }
 
-fn three(rt: &impl Print, a: u64, b: u64, c: u64) -> io::Result<()> {
-    print!(rt; " {a} {b} {c}")
+impl<P: Display + Copy> Display for Fields<PartyEx<P>> {
+    fn fmt<W: fmt::Write>(&self, f: &mut fmt::Formatter<W>) -> fmt::Result {
+        let p = self.0;
+        write!(f, " {} {} {}", p.audit, p.effective_user, p.effective_group)?;
+        write!(f, " {} {} {}", p.real_user, p.real_group, p.process)?;
+        write!(f, " {} {}", p.session, p.port)
+    }
 }
 
-fn party<P: Display + Drop>(rt: &impl Print, p: Party<P>) -> io::Result<()> {
-    print!(rt; " {} {} {}", p.audit, p.effective_user, p.effective_group)?;
-    print!(rt; " {} {} {}", p.real_user, p.real_group, p.process)?;
-    print!(rt; " {} {} {}", p.session, p.port, p.address)
+impl Display for Fields<IpHeader> {
+    fn fmt<W: fmt::Write>(&self, f: &mut fmt::Formatter<W>) -> fmt::Result {
+        let h = self.0;
+        write!(f, " {} {} {}", h.version, h.service, h.length)?;
+        write!(f, " {} {} {}", h.id, h.offset, h.ttl)?;
+        write!(f, " {} {}", h.protocol, h.checksum)?;
+        write!(f, " {} {}", h.source, h.destination)
+    }
 }
 
-fn party_ex<P: Display + Drop>(rt: &impl Print, p: PartyEx<P>) -> io::Result<()> {
-    print!(rt; " {} {} {}", p.audit, p.effective_user, p.effective_group)?;
-    print!(rt; " {} {} {}", p.real_user, p.real_group, p.process)?;
-    print!(rt; " {} {}", p.session, p.port)
+impl Display for Fields<Permissions> {
+    fn fmt<W: fmt::Write>(&self, f: &mut fmt::Formatter<W>) -> fmt::Result {
+        let p = self.0;
+        write!(f, " {} {}", p.user, p.group)?;
+        write!(f, " {} {}", p.creator_user, p.creator_group)?;
+        write!(f, " {} {} {}", p.mode, p.sequence, p.key)
+    }
 }
 
-fn ip(rt: &impl Print, h: IpHeader) -> io::Result<()> {
-    print!(rt; " {} {} {}", h.version, h.service, h.length)?;
-    print!(rt; " {} {} {}", h.id, h.offset, h.ttl)?;
-    print!(rt; " {} {}", h.protocol, h.checksum)?;
-    print!(rt; " {} {}", h.source, h.destination)
-}
-
-fn permissions(rt: &impl Print, p: Permissions) -> io::Result<()> {
-    print!(rt; " {} {}", p.user, p.group)?;
-    print!(rt; " {} {}", p.creator_user, p.creator_group)?;
-    print!(rt; " {} {} {}", p.mode, p.sequence, p.key)
-}
-
-// The fields of a token, in the order of its layout.
-fn fields(rt: &impl Print, t: Token) -> io::Result<()> {
-    match t {
-        Token::Path { length } | Token::Text { length } | Token::Opaque { length } => number(
-            rt,
-            length as u64,
-        ),
-        Token::Subject32(p) | Token::Process32(p) => party(rt, p),
-        Token::Return32 { error, value } => two(rt, error as u64, value as u64),
-        Token::InAddr(address) => number(rt, address as u64),
-        Token::Ip(h) => ip(rt, h),
-        Token::Iport(port) => number(rt, port as u64),
-        Token::Arg32 {
-            argument,
-            value,
-            length,
-        } => three(rt, argument as u64, value as u64, length as u64),
-        Token::Seq(sequence) => number(rt, sequence as u64),
-        Token::IpcPerm(p) => permissions(rt, p),
-        Token::Newgroups { count } => number(rt, count as u64),
-        Token::ExecArgs { count } | Token::ExecEnv { count } => number(rt, count as u64),
-        Token::Exit { status, value } => two(rt, status as u64, value as u64),
-        Token::Arg64 {
-            argument,
-            value,
-            length,
-        } => three(rt, argument as u64, value, length as u64),
-        Token::Return64 { error, value } => two(rt, error as u64, value),
-        Token::Subject64(p) | Token::Process64(p) => party(rt, p),
-        Token::Subject32Ex { party, length } | Token::Process32Ex { party, length } => {
-            party_ex(rt, party)?;
-            number(rt, length as u64)
+impl Display for Fields<Token> {
+    fn fmt<W: fmt::Write>(&self, f: &mut fmt::Formatter<W>) -> fmt::Result {
+        match self.0 {
+            Token::Path { length } | Token::Text { length } | Token::Opaque { length } => write!(
+                f,
+                " {length}"
+            ),
+            Token::Subject32(p) | Token::Process32(p) => write!(f, "{}", Fields(p)),
+            Token::Return32 { error, value } => write!(f, " {error} {value}"),
+            Token::InAddr(address) => write!(f, " {address}"),
+            Token::Ip(h) => write!(f, "{}", Fields(h)),
+            Token::Iport(port) => write!(f, " {port}"),
+            Token::Arg32 {
+                argument,
+                value,
+                length,
+            } => write!(f, " {argument} {value} {length}"),
+            Token::Seq(sequence) => write!(f, " {sequence}"),
+            Token::IpcPerm(p) => write!(f, "{}", Fields(p)),
+            Token::Newgroups { count } => write!(f, " {count}"),
+            Token::ExecArgs { count } | Token::ExecEnv { count } => write!(f, " {count}"),
+            Token::Exit { status, value } => write!(f, " {status} {value}"),
+            Token::Arg64 {
+                argument,
+                value,
+                length,
+            } => write!(f, " {argument} {value} {length}"),
+            Token::Return64 { error, value } => write!(f, " {error} {value}"),
+            Token::Subject64(p) | Token::Process64(p) => write!(f, "{}", Fields(p)),
+            Token::Subject32Ex { party, length } | Token::Process32Ex { party, length } => write!(
+                f,
+                "{} {length}",
+                Fields(party)
+            ),
+            Token::Subject64Ex { party, length } | Token::Process64Ex { party, length } => write!(
+                f,
+                "{} {length}",
+                Fields(party)
+            ),
+            Token::InAddrEx { length } => write!(f, " {length}"),
         }
-        Token::Subject64Ex { party, length } | Token::Process64Ex { party, length } => {
-            party_ex(rt, party)?;
-            number(rt, length as u64)
-        }
-        Token::InAddrEx { length } => number(rt, length as u64),
     }
 }
 
 // The token at a place of a body: its size, its fields, and its text, bytes, groups, strings or address.
-pub(crate) fn token_back(rt: &impl Print, body: &[u8], at: usize) -> io::Result<()> {
-    print!(rt; "  read")?;
-    match token_at(body, at) {
-        Ok(
-            Some(
-                TokenFound {
-                    token,
-                    start,
-                    length,
-                    size,
-                },
-            ),
-        ) => {
-            print!(rt; " {size}:")?;
-            fields(rt, token)?;
-            hex(rt, part(body, start, length))?;
-        }
-        Ok(None) => print!(rt; " end")?,
-        Err(f) => refused(rt, f)?,
-    }
-    println!(rt)
+#[derive(Clone, Copy)]
+pub(crate) struct TokenAt<'a> {
+    pub(crate) body: &'a [u8],
+    pub(crate) at: usize,
 }
 
-fn found(rt: &impl Print, trail: &[u8], item: Item) -> io::Result<()> {
-    match item {
-        Item::File {
-            size,
-            seconds,
-            microseconds,
-            start: _,
-            length: _,
-        } => {
-            print!(rt; " {size}: {seconds} {microseconds}")?;
-            hex(rt, name_of(trail, item))
-        }
-        Item::Record {
-            size,
-            header,
-            tokens,
-            start: _,
-            length: _,
-        } => {
-            print!(rt;
-                " {size}: {} {} {}",
-                header.version, header.event, header.modifier
-            )?;
-            hex(rt, address_of(trail, item))?;
-            print!(rt; " {} {}", header.seconds, header.nanoseconds)?;
-            print!(rt; ", tokens {tokens} {}", body_of(trail, item).len())
+impl<'a> Display for TokenAt<'a> {
+    fn fmt<W: fmt::Write>(&self, f: &mut fmt::Formatter<W>) -> fmt::Result {
+        match token_at(self.body, self.at) {
+            Ok(
+                Some(
+                    TokenFound {
+                        token,
+                        start,
+                        length,
+                        size,
+                    },
+                ),
+            ) => write!(
+                f,
+                " {size}:{}{}",
+                Fields(token),
+                Hex(part(self.body, start, length))
+            ),
+            Ok(None) => write!(f, " end"),
+            Err(refusal) => write!(f, "{}", Refused(refusal)),
         }
     }
 }
 
 // The item at a place of a trail: its size, its fields, and its name or how many tokens and bytes its body has.
-pub(crate) fn item_back(rt: &impl Print, trail: &[u8], place: usize) -> io::Result<()> {
-    print!(rt; "  read")?;
-    match item_at(trail, place) {
-        Ok(Some(item)) => found(rt, trail, item)?,
-        Ok(None) => print!(rt; " end")?,
-        Err(f) => refused(rt, f)?,
-    }
-    println!(rt)
+#[derive(Clone, Copy)]
+pub(crate) struct ItemAt<'a> {
+    pub(crate) trail: &'a [u8],
+    pub(crate) place: usize,
 }
 
-// How many bytes were written at a place; a refusal is printed.
-pub(crate) fn count(rt: &impl Print, answer: Result<usize, Refusal>) -> io::Result<usize> {
-    match answer {
-        Ok(n) => Ok(n),
-        Err(f) => {
-            refused(rt, f)?;
-            println!(rt)?;
-            Ok(0)
+#[derive(Clone, Copy)]
+struct ItemFound<'a> {
+    trail: &'a [u8],
+    item: Item,
+}
+
+impl<'a> Display for ItemFound<'a> {
+    fn fmt<W: fmt::Write>(&self, f: &mut fmt::Formatter<W>) -> fmt::Result {
+        let (trail, item) = (self.trail, self.item);
+        match item {
+            Item::File {
+                size,
+                seconds,
+                microseconds,
+                ..
+            } => write!(
+                f,
+                " {size}: {seconds} {microseconds}{}",
+                Hex(name_of(trail, item))
+            ),
+            Item::Record {
+                size,
+                header: h,
+                tokens,
+                ..
+            } => {
+                write!(f, " {size}: {} {} {}", h.version, h.event, h.modifier)?;
+                write!(
+                    f,
+                    "{} {} {}",
+                    Hex(address_of(trail, item)),
+                    h.seconds,
+                    h.nanoseconds
+                )?;
+                write!(f, ", tokens {tokens} {}", body_of(trail, item).len())
+            }
+        }
+    }
+}
+
+impl<'a> Display for ItemAt<'a> {
+    fn fmt<W: fmt::Write>(&self, f: &mut fmt::Formatter<W>) -> fmt::Result {
+        let trail = self.trail;
+        match item_at(trail, self.place) {
+            Ok(Some(item)) => write!(f, "{}", ItemFound { trail, item }),
+            Ok(None) => write!(f, " end"),
+            Err(refusal) => write!(f, "{}", Refused(refusal)),
         }
     }
 }

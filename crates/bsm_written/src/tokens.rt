@@ -1,4 +1,9 @@
 // A token of each kind: writing it.
+ghost use Rattle.std.specs.Prelude.{◌≡◌, ◌≤◌, IfOk, OnErr, length};
+
+use crate::print::Layout;
+use crate::read::TokenAt;
+use crate::write::put;
 use bsm_token::kind;
 use bsm_token::kind::{IpHeader, Party, PartyEx, Permissions};
 use bsm_token::part::part;
@@ -13,6 +18,68 @@ use bsm_write::simple::{
 };
 use bsm_write::tail::{write_exec_args, write_exec_env, write_newgroups, write_opaque};
 use bsm_write::text::{write_arg32, write_arg64, write_path, write_text};
+use std::io;
+
+// A token of each kind: its number, its name, and the widths of the fields in front, in the order of their writing.
+const TOKENS: [(u8, &str, &[u8]); 25] = [
+    (kind::PATH, "path", &[1, 2]),
+    (
+        kind::SUBJECT32,
+        "subject32",
+        &[1, 4, 4, 4, 4, 4, 4, 4, 4, 4],
+    ),
+    (
+        kind::PROCESS32,
+        "process32",
+        &[1, 4, 4, 4, 4, 4, 4, 4, 4, 4],
+    ),
+    (kind::RETURN32, "return32", &[1, 1, 4]),
+    (kind::TEXT, "text", &[1, 2]),
+    (kind::OPAQUE, "opaque", &[1, 2]),
+    (kind::IN_ADDR, "in_addr", &[1, 4]),
+    (kind::IP, "ip", &[1, 1, 1, 2, 2, 2, 1, 1, 2, 4, 4]),
+    (kind::IPORT, "iport", &[1, 2]),
+    (kind::ARG32, "arg32", &[1, 1, 4, 2]),
+    (kind::SEQ, "seq", &[1, 4]),
+    (kind::IPC_PERM, "ipc_perm", &[1, 4, 4, 4, 4, 4, 4, 4]),
+    (kind::NEWGROUPS, "newgroups", &[1, 2, 4, 4, 4]),
+    (kind::EXEC_ARGS, "exec_args", &[1, 4]),
+    (kind::EXEC_ENV, "exec_env", &[1, 4]),
+    (kind::EXIT, "exit", &[1, 4, 4]),
+    (kind::ARG64, "arg64", &[1, 1, 8, 2]),
+    (kind::RETURN64, "return64", &[1, 1, 8]),
+    (
+        kind::SUBJECT64,
+        "subject64",
+        &[1, 4, 4, 4, 4, 4, 4, 4, 8, 4],
+    ),
+    (
+        kind::PROCESS64,
+        "process64",
+        &[1, 4, 4, 4, 4, 4, 4, 4, 8, 4],
+    ),
+    (
+        kind::SUBJECT32_EX,
+        "subject32_ex",
+        &[1, 4, 4, 4, 4, 4, 4, 4, 4, 4],
+    ),
+    (
+        kind::PROCESS32_EX,
+        "process32_ex",
+        &[1, 4, 4, 4, 4, 4, 4, 4, 4, 4],
+    ),
+    (
+        kind::SUBJECT64_EX,
+        "subject64_ex",
+        &[1, 4, 4, 4, 4, 4, 4, 4, 8, 4],
+    ),
+    (
+        kind::PROCESS64_EX,
+        "process64_ex",
+        &[1, 4, 4, 4, 4, 4, 4, 4, 8, 4],
+    ),
+    (kind::IN_ADDR_EX, "in_addr_ex", &[1, 4]),
+];
 
 // A port of 8 bytes.
 const WIDE: u64 = 0x0102030405060708;
@@ -85,7 +152,7 @@ fn write_expanded(number: u8, dst: &mut [u8]) -> Result<usize, Refusal> {
 }
 
 // Writes a token with this number.
-pub(crate) fn write_kind(number: u8, dst: &mut [u8]) -> Result<usize, Refusal> {
+fn write_kind(number: u8, dst: &mut [u8]) -> Result<usize, Refusal> {
     match number {
         kind::PATH => write_path(dst, b"/etc/passwd"),
         kind::SUBJECT32 => write_subject32(dst, party(22)),
@@ -109,4 +176,24 @@ pub(crate) fn write_kind(number: u8, dst: &mut [u8]) -> Result<usize, Refusal> {
         kind::PROCESS64 => write_process64(dst, party(WIDE)),
         _ => write_expanded(number, dst),
     }
+}
+
+// Writes a token of each kind, from the start of a buffer on; answers the place behind the last one.
+pub(crate) fn all_tokens(rt: &impl Print, space: &mut [u8]) -> io::Result<usize>
+    ensures ok { IfOk result (λ at. at ≤ length space.new) }
+    ensures err { OnErr result (length space.new ≡ length space.old) }
+{
+    let mut at = 0;
+    for (number, name, widths) in TOKENS {
+        let layout = Layout {
+            name,
+            widths,
+            trailer: 0,
+        };
+        let end = put(rt, space, at, layout, |dst| write_kind(number, dst))?;
+        let body = part(space, 0, end);
+        println!(rt; "  read{}", TokenAt { body, at })?;
+        at = end;
+    }
+    Ok(at)
 }

@@ -9,10 +9,10 @@ pub(crate) fn fail(rt: &impl Eprint, what: &str, why: impl Display + Drop) {
 }
 
 // The system's own words for an error, without the number that std writes behind them.
-#[derive(Drop)]
-pub(crate) struct Reason(pub(crate) io::Error);
+#[derive(Clone, Copy)]
+pub(crate) struct Reason<'a>(pub(crate) &'a io::Error);
 
-impl Display for Reason {
+impl<'a> Display for Reason<'a> {
     fn fmt<W: fmt::Write>(&self, f: &mut fmt::Formatter<W>) -> fmt::Result {
         let mut text = Cursor::new([0u8; 128]);
         // Where it does not fit, its end is left out.
