@@ -1,4 +1,4 @@
-// The library for C and Rust: slices, numbers and structs of numbers only (include/bsm.h).
+// The library for C and Rust: slices, numbers and structs of numbers only, and a function for each token (include/bsm.h).
 #![tactic(auto)]
 
 pub mod answer;
