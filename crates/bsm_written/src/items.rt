@@ -1,7 +1,7 @@
 // A file token and records: writing them.
 ghost use Rattle.std.specs.Prelude.{◌≤◌, IfOk, length};
 
-use crate::print::{Layout, TRAILER};
+use crate::print::Layout;
 use crate::read::ItemAt;
 use crate::write::{count, put};
 use bsm_draft::header::HeaderFields;
@@ -11,6 +11,39 @@ use bsm_token::refusal::Refusal;
 use bsm_write::file::write_file;
 use bsm_write::record::{write_record32, write_record32_ex, write_record64, write_record64_ex};
 use std::io;
+
+// How many bytes a record's trailer has.
+const TRAILER: usize = 7;
+
+const FILE: Layout = Layout {
+    name: "file",
+    widths: &[1, 4, 4, 2],
+    trailer: 0,
+};
+
+const RECORD32: Layout = Layout {
+    name: "record32",
+    widths: &[1, 4, 1, 2, 2, 4, 4],
+    trailer: TRAILER,
+};
+
+const RECORD64: Layout = Layout {
+    name: "record64",
+    widths: &[1, 4, 1, 2, 2, 8, 8],
+    trailer: TRAILER,
+};
+
+const RECORD32_EX: Layout = Layout {
+    name: "record32_ex",
+    widths: &[1, 4, 1, 2, 2, 4, 4, 4, 4],
+    trailer: TRAILER,
+};
+
+const RECORD64_EX: Layout = Layout {
+    name: "record64_ex",
+    widths: &[1, 4, 1, 2, 2, 4, 16, 8, 8],
+    trailer: TRAILER,
+};
 
 fn header() -> HeaderFields {
     HeaderFields {
@@ -53,13 +86,62 @@ fn put_item<F: FnOnce(&mut [u8]) -> Result<usize, Refusal>>(
     Ok(end)
 }
 
-// How a record with this header is printed.
-fn record<'a>(name: &'a str, widths: &'a [u8]) -> Layout<'a> {
-    Layout {
-        name,
-        widths,
-        trailer: TRAILER,
-    }
+// A record without a body, and two that have the first tokens of one, each with a subject of another kind; answers the place behind them.
+fn plain_records(rt: &impl Print, space: &mut [u8], from: usize, body: &[u8]) -> io::Result<usize>
+    requires { from ≤ length space.old }
+    ensures { IfOk result (λ end. end ≤ length space.new) }
+{
+    let second = behind(body);
+    let at = put_item(
+        rt,
+        space,
+        from,
+        RECORD32,
+        |dst| write_record32(dst, header(), b""),
+    )?;
+    let at = put_item(
+        rt,
+        space,
+        at,
+        RECORD32,
+        |dst| write_record32(dst, header(), with_one(body)),
+    )?;
+    put_item(
+        rt,
+        space,
+        at,
+        RECORD64,
+        |dst| write_record64(dst, header(), with_one(second)),
+    )
+}
+
+// Records with an address of each length, which share the tokens of a body.
+fn expanded_records(
+    rt: &impl Print,
+    space: &mut [u8],
+    from: usize,
+    body: &[u8],
+) -> io::Result<usize>
+    requires { from ≤ length space.old }
+    ensures { IfOk result (λ end. end ≤ length space.new) }
+{
+    let second = behind(body);
+    let short = b"\xC0\0\x02\x01";
+    let long = b"\x20\x01\x0D\xB8\0\0\0\0\0\0\0\0\0\0\0\x01";
+    let at = put_item(
+        rt,
+        space,
+        from,
+        RECORD32_EX,
+        |dst| write_record32_ex(dst, header(), short, with_one(body)),
+    )?;
+    put_item(
+        rt,
+        space,
+        at,
+        RECORD64_EX,
+        |dst| write_record64_ex(dst, header(), long, second),
+    )
 }
 
 // A file token, a record without a body, and four records that share the tokens of a body, with a header and a subject of another kind
@@ -72,59 +154,9 @@ pub(crate) fn all_items(
 ) -> io::Result<()>
     requires { from ≤ length space.old }
 {
-    let file = Layout {
-        name: "file",
-        widths: &[1, 4, 4, 2],
-        trailer: 0,
-    };
-    let short = record("record32", &[1, 4, 1, 2, 2, 4, 4]);
-    let long = record("record64", &[1, 4, 1, 2, 2, 8, 8]);
-    let short_ex = record("record32_ex", &[1, 4, 1, 2, 2, 4, 4, 4, 4]);
-    let long_ex = record("record64_ex", &[1, 4, 1, 2, 2, 4, 16, 8, 8]);
-    let second = behind(body);
-    let third = behind(second);
-    let fourth = behind(third);
-    let at = put_item(rt, space, from, file, |dst| write_file(dst, 5, 7, b"a"))?;
-    let at = put_item(
-        rt,
-        space,
-        at,
-        short,
-        |dst| write_record32(dst, header(), b""),
-    )?;
-    let at = put_item(
-        rt,
-        space,
-        at,
-        short,
-        |dst| write_record32(dst, header(), with_one(body)),
-    )?;
-    let at = put_item(
-        rt,
-        space,
-        at,
-        long,
-        |dst| write_record64(dst, header(), with_one(second)),
-    )?;
-    let at = put_item(
-        rt,
-        space,
-        at,
-        short_ex,
-        |dst| write_record32_ex(dst, header(), b"\xC0\0\x02\x01", with_one(third)),
-    )?;
-    put_item(
-        rt,
-        space,
-        at,
-        long_ex,
-        |dst| write_record64_ex(
-            dst,
-            header(),
-            b"\x20\x01\x0D\xB8\0\0\0\0\0\0\0\0\0\0\0\x01",
-            fourth,
-        ),
-    )?;
+    let at = put_item(rt, space, from, FILE, |dst| write_file(dst, 5, 7, b"a"))?;
+    let at = plain_records(rt, space, at, body)?;
+    expanded_records(rt, space, at, behind(behind(body)))?;
     Ok(())
 }
 

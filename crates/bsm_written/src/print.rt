@@ -2,9 +2,6 @@
 use std::fmt;
 use std::fmt::Display;
 
-// How many bytes a record's trailer has.
-pub(crate) const TRAILER: usize = 7;
-
 // Bytes in hexadecimal, with a space before them; nothing for none.
 #[derive(Clone, Copy)]
 pub(crate) struct Hex<'a>(pub(crate) &'a [u8]);
