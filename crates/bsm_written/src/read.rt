@@ -2,7 +2,7 @@
 use crate::print::Hex;
 use bsm_item::item::Item;
 use bsm_item::read::{address_of, body_of, item_at, name_of};
-use bsm_kinds::token::{Token, TokenFound, token_at};
+use bsm_kinds::token::{Token, token_at};
 use bsm_token::kind::{IpHeader, Party, PartyEx, Permissions};
 use bsm_token::part::part;
 use bsm_token::refusal::Refusal;
@@ -118,21 +118,10 @@ pub(crate) struct TokenAt<'a> {
 impl<'a> Display for TokenAt<'a> {
     fn fmt<W: fmt::Write>(&self, f: &mut fmt::Formatter<W>) -> fmt::Result {
         match token_at(self.body, self.at) {
-            Ok(
-                Some(
-                    TokenFound {
-                        token,
-                        start,
-                        length,
-                        size,
-                    },
-                ),
-            ) => write!(
-                f,
-                " {size}:{}{}",
-                Fields(token),
-                Hex(part(self.body, start, length))
-            ),
+            Ok(Some(found)) => {
+                let bytes = part(self.body, found.start, found.length);
+                write!(f, " {}:{}{}", found.size, Fields(found.token), Hex(bytes))
+            }
             Ok(None) => write!(f, " end"),
             Err(refusal) => write!(f, "{}", Refused(refusal)),
         }
