@@ -15,7 +15,7 @@ pub struct BsmWritten {
     pub need: u64,
 }
 
-// Zeros where there is no refusal.
+// Zeros where there is no refusal: structs for C have its fields in any case.
 pub(crate) fn no_refusal() -> Refusal
     ensures { result ≡ record { number = 0; place = 0; need = 0 } }
 {

@@ -44,7 +44,7 @@ fn found(kind: u64, size: usize, h: Header, tokens: usize, start: usize, length:
     ensures { result ≡ found_item kind size h.number (h.version ∷ h.event ∷ h.modifier ∷ h.seconds ∷ h.nanoseconds ∷ []) tokens (record { start = start; length = length }) (address_part h start) }
 {
     BsmItem {
-        kind: kind,
+        kind,
         size: size as u64,
         header: h.number as u64,
         version: h.version as u64,
@@ -68,7 +68,7 @@ pub(crate) fn no_item(kind: u64, f: Refusal) -> BsmItem
     ensures { result ≡ no_item kind f.number f.place f.need }
 {
     BsmItem {
-        kind: kind,
+        kind,
         size: 0,
         header: 0,
         version: 0,

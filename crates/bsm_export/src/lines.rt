@@ -84,7 +84,7 @@ fn listing(stage: u64, state: State, written: usize) -> BsmListing
     ensures { result ≡ record { stage = stage; place = state.place; records = state.records; files = state.files; written = written } }
 {
     BsmListing {
-        stage: stage,
+        stage,
         place: state.place as u64,
         records: state.records as u64,
         files: state.files as u64,

@@ -7,7 +7,7 @@ use bsm_token::part::part;
 use bsm_token::refusal::Refusal;
 use std::io;
 
-// How many bytes were written; a refusal is printed.
+// How many bytes were written; a refusal is printed, and wrote none.
 pub(crate) fn count(rt: &impl Print, answer: Result<usize, Refusal>) -> io::Result<usize> {
     match answer {
         Ok(n) => Ok(n),
