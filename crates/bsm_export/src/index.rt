@@ -8,7 +8,7 @@ ghost use Rattle.bsm_export.specs.Index.{FillTold, found_numbers};
 
 use crate::answer::no_refusal;
 use crate::item::{BsmItem, found_item, no_item};
-use crate::state::{BsmOutcome, run_numbers};
+use crate::state::BsmOutcome;
 use bsm_index::fill::fill;
 use bsm_index::find::find_record;
 use bsm_item::state::State;
@@ -47,7 +47,7 @@ pub extern "C" fn bsm_fill_index(
     };
     let filled = fill(trail, state, table);
     BsmFilled {
-        run: run_numbers(filled.run),
+        run: filled.run.into(),
         count: filled.count as u64,
     }
 }

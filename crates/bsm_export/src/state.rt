@@ -56,14 +56,16 @@ fn outcome(last: State, f: Refusal) -> BsmOutcome
 }
 
 // A run as numbers.
-pub(crate) fn run_numbers(run: Run) -> BsmOutcome
-    ensures { result ≡ flat_outcome (run_meant run) }
-{
-    let last = run.state;
-    let ending = run.ending;
-    match ending {
-        Ok(()) => outcome(last, no_refusal()),
-        Err(f) => outcome(last, f),
+impl From<Run> for BsmOutcome {
+    ghost from_gives = { λ run r. r ≡ flat_outcome (run_meant run) };
+
+    fn from(run: Run) -> BsmOutcome {
+        let last = run.state;
+        let ending = run.ending;
+        match ending {
+            Ok(()) => outcome(last, no_refusal()),
+            Err(f) => outcome(last, f),
+        }
     }
 }
 
@@ -94,5 +96,5 @@ pub extern "C" fn bsm_run(trail: &[u8], place: usize, records: usize, files: usi
         records,
         files,
     };
-    run_numbers(state.run(trail))
+    state.run(trail).into()
 }
