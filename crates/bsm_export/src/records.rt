@@ -1,4 +1,6 @@
 // Writers of file tokens and of records.
+#![tactic(auto, using(crate::proofs::Answers::exported))]
+
 ghost use Rattle.std.specs.Prelude.{[], ◌∷◌};
 ghost use Rattle.bsm_token.specs.Names.{header32_token, header64_token, header32_ex_token, header64_ex_token};
 ghost use Rattle.bsm_draft.specs.Items.{file_draft, record_draft};

@@ -1,4 +1,6 @@
 // Writers of the other tokens that have values only.
+#![tactic(auto, using(crate::proofs::Answers::exported))]
+
 ghost use Rattle.std.specs.Prelude.{[], ◌∷◌};
 ghost use Rattle.bsm_token.specs.Names.{exit_token, in_addr_token, ip_token, ipc_perm_token, iport_token, return32_token, return64_token, seq_token};
 ghost use Rattle.bsm_draft.specs.Given.{nothing, token_draft};

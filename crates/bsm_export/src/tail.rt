@@ -1,4 +1,6 @@
 // Writers of opaque, newgroups and exec tokens.
+#![tactic(auto, using(crate::proofs::Answers::exported))]
+
 ghost use Rattle.std.specs.Prelude.{[]};
 ghost use Rattle.bsm_token.specs.Names.{exec_args_token, exec_env_token, newgroups_token, opaque_token};
 ghost use Rattle.bsm_draft.specs.Given.{some_bytes, some_groups, some_strings, token_draft};

@@ -1,4 +1,6 @@
 // Writers of tokens that have a text, given without its zero byte.
+#![tactic(auto, using(crate::proofs::Answers::exported))]
+
 ghost use Rattle.std.specs.Prelude.{[], ◌∷◌};
 ghost use Rattle.bsm_token.specs.Names.{arg32_token, arg64_token, path_token, text_token};
 ghost use Rattle.bsm_draft.specs.Given.{a_text, token_draft};

@@ -1,6 +1,0 @@
-use Rattle.bsm_export.proofs.Answers.{exported}
-use borrow.Author.Rules.{rules}
-use Rattle.bsm_export.proofs.simple.bsm_write_seq.Goals as goal
-
-pub returns : goal.returns
-returns c = search (exported, rules)
