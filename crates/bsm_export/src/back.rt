@@ -4,7 +4,7 @@ ghost use Rattle.bsm_back.specs.Back.{record_before};
 ghost use Rattle.bsm_back.specs.Meaning.{located_back};
 ghost use Rattle.bsm_export.specs.Back.{flat_back};
 
-use crate::item::{BsmItem, found_item, no_item};
+use crate::item::{BsmItem, no_item};
 use bsm_back::back::{Before, record_before};
 use bsm_token::refusal::Refusal;
 
@@ -32,7 +32,7 @@ pub extern "C" fn bsm_record_before(trail: &[u8], place: usize) -> BsmBefore
     ensures { result ≡ flat_back place (located_back (record_before trail.now place)) }
 {
     match record_before(trail, place) {
-        Ok(Before::Record { item, place: start }) => before(found_item(item), start),
+        Ok(Before::Record { item, place: start }) => before(item.into(), start),
         Ok(Before::Boundary { need }) => before(
             no_item(
                 4,

@@ -7,7 +7,7 @@ ghost use Rattle.bsm_export.specs.Items.{state_at};
 ghost use Rattle.bsm_export.specs.Index.{FillTold, found_numbers};
 
 use crate::answer::no_refusal;
-use crate::item::{BsmItem, found_item, no_item};
+use crate::item::{BsmItem, no_item};
 use crate::state::{BsmOutcome, run_numbers};
 use bsm_index::fill::fill;
 use bsm_index::find::find_record;
@@ -67,7 +67,7 @@ pub extern "C" fn bsm_find_record(trail: &[u8], table: &[u64], count: usize, n: 
     ensures { result ≡ found_numbers (found_at (find_record trail.now table.now count n)) }
 {
     match find_record(trail, table, count, n) {
-        Ok(Some(record)) => found(found_item(record.item), record.place),
+        Ok(Some(record)) => found(record.item.into(), record.place),
         Ok(None) => found(no_item(0, no_refusal()), 0),
         Err(f) => found(no_item(3, f), 0),
     }

@@ -88,39 +88,41 @@ pub(crate) fn no_item(kind: u64, f: Refusal) -> BsmItem
 }
 
 // An item, whatever trail it was read from.
-pub(crate) fn found_item(item: Item) -> BsmItem
-    ensures { (s : List ℕ) → result ≡ flat_found (item_meant s item) (part_meant item) (address_meant item) }
-{
-    match item {
-        Item::File {
-            size,
-            seconds,
-            microseconds,
-            start,
-            length,
-        } => found(
-            1,
-            size,
-            Header {
-                number: 0,
-                version: 0,
-                event: 0,
-                modifier: 0,
-                address: 0,
-                seconds: seconds as u64,
-                nanoseconds: microseconds as u64,
-            },
-            0,
-            start,
-            length,
-        ),
-        Item::Record {
-            size,
-            header,
-            tokens,
-            start,
-            length,
-        } => found(2, size, header, tokens, start, length),
+impl From<Item> for BsmItem {
+    ghost from_gives = { λ item r. (s : List ℕ) → r ≡ flat_found (item_meant s item) (part_meant item) (address_meant item) };
+
+    fn from(item: Item) -> BsmItem {
+        match item {
+            Item::File {
+                size,
+                seconds,
+                microseconds,
+                start,
+                length,
+            } => found(
+                1,
+                size,
+                Header {
+                    number: 0,
+                    version: 0,
+                    event: 0,
+                    modifier: 0,
+                    address: 0,
+                    seconds: seconds as u64,
+                    nanoseconds: microseconds as u64,
+                },
+                0,
+                start,
+                length,
+            ),
+            Item::Record {
+                size,
+                header,
+                tokens,
+                start,
+                length,
+            } => found(2, size, header, tokens, start, length),
+        }
     }
 }
 
@@ -130,7 +132,7 @@ pub extern "C" fn bsm_item_at(trail: &[u8], place: usize) -> BsmItem
     ensures { result ≡ flat_item (located place (item_at trail.now place)) }
 {
     match item_at(trail, place) {
-        Ok(Some(item)) => found_item(item),
+        Ok(Some(item)) => item.into(),
         Ok(None) => no_item(0, no_refusal()),
         Err(f) => no_item(3, f),
     }

@@ -5,7 +5,7 @@ ghost use Rattle.bsm_item.specs.Meaning.{state_meant, step_at, run_meant};
 ghost use Rattle.bsm_export.specs.Items.{state_at, step_with, outcome_with, flat_step, flat_outcome};
 
 use crate::answer::no_refusal;
-use crate::item::{BsmItem, found_item, no_item};
+use crate::item::{BsmItem, no_item};
 use bsm_item::state::{Run, State};
 use bsm_token::refusal::Refusal;
 
@@ -78,7 +78,7 @@ pub extern "C" fn bsm_next(trail: &[u8], place: usize, records: usize, files: us
         files,
     };
     match state.next(trail) {
-        Ok(Some((item, after))) => step(found_item(item), after),
+        Ok(Some((item, after))) => step(item.into(), after),
         Ok(None) => step(no_item(0, no_refusal()), state),
         Err(f) => step(no_item(3, f), state),
     }

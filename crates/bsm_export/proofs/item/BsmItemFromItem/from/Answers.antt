@@ -1,6 +1,6 @@
 use Rattle.bsm_export.proofs.ItemNumbers.{file_flat, record_flat}
 use borrow.Author.Rules.{rules}
-use Rattle.bsm_export.proofs.item.found_item.Goals as goal
+use Rattle.bsm_export.proofs.item.BsmItemFromItem.from.Goals as goal
 
 pub returns-in-File : goal.returns-in-File
 returns-in-File c = search (file_flat, rules)
