@@ -93,14 +93,16 @@ fn listing(stage: u64, state: State, written: usize) -> BsmListing
 }
 
 // The answer of a call that listed a part.
-fn listed(l: Listing) -> BsmListing
-    ensures { result ≡ flat_listing (cursor_meant l.cursor) l.written }
-{
-    let cursor = l.cursor;
-    match cursor {
-        Cursor::First => listing(0, State::fresh(), l.written),
-        Cursor::At(state) => listing(1, state, l.written),
-        Cursor::Done => listing(2, State::fresh(), l.written),
+impl From<Listing> for BsmListing {
+    ghost from_gives = { λ l r. r ≡ flat_listing (cursor_meant l.cursor) l.written };
+
+    fn from(l: Listing) -> BsmListing {
+        let cursor = l.cursor;
+        match cursor {
+            Cursor::First => listing(0, State::fresh(), l.written),
+            Cursor::At(state) => listing(1, state, l.written),
+            Cursor::Done => listing(2, State::fresh(), l.written),
+        }
     }
 }
 
@@ -121,5 +123,5 @@ pub extern "C" fn bsm_list(
         records,
         files,
     };
-    listed(list_part(trail, cursor_of(stage, state), out))
+    list_part(trail, cursor_of(stage, state), out).into()
 }

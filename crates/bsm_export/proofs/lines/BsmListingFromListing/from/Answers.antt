@@ -1,6 +1,6 @@
 use Rattle.bsm_export.proofs.Listings.{listed_first, listed_at, listed_done}
 use borrow.Author.Rules.{rules}
-use Rattle.bsm_export.proofs.lines.listed.Goals as goal
+use Rattle.bsm_export.proofs.lines.BsmListingFromListing.from.Goals as goal
 
 pub returns-in-First : goal.returns-in-First
 returns-in-First c = search (listed_first, rules)
