@@ -38,11 +38,13 @@ pub(crate) fn answer_of(written: usize, f: Refusal) -> BsmWritten
 }
 
 // A writer's answer.
-pub(crate) fn flat(a: Result<usize, Refusal>) -> BsmWritten
-    ensures { result ≡ flat_written (answer_meant a) }
-{
-    match a {
-        Ok(n) => answer_of(n, no_refusal()),
-        Err(f) => answer_of(0, f),
+impl From<Result<usize, Refusal>> for BsmWritten {
+    ghost from_gives = { λ a r. r ≡ flat_written (answer_meant a) };
+
+    fn from(a: Result<usize, Refusal>) -> BsmWritten {
+        match a {
+            Ok(n) => answer_of(n, no_refusal()),
+            Err(f) => answer_of(0, f),
+        }
     }
 }

@@ -6,7 +6,7 @@ ghost use Rattle.bsm_token.specs.Names.{in_addr_ex_token, process32_ex_token, pr
 ghost use Rattle.bsm_draft.specs.Given.{an_address, token_draft};
 ghost use Rattle.bsm_export.specs.Written.{Exported};
 
-use crate::answer::{BsmWritten, flat};
+use crate::answer::BsmWritten;
 use bsm_token::kind::PartyEx;
 use bsm_write::expanded::{
     write_in_addr_ex, write_process32_ex, write_process64_ex, write_subject32_ex,
@@ -28,7 +28,7 @@ pub extern "C" fn bsm_write_subject32_ex(
 ) -> BsmWritten
     ensures { Exported (token_draft subject32_ex_token (audit ∷ effective_user ∷ effective_group ∷ real_user ∷ real_group ∷ process ∷ session ∷ port ∷ []) (an_address address.now)) dst.old dst.new result }
 {
-    flat(write_subject32_ex(
+    write_subject32_ex(
         dst,
         PartyEx {
             audit,
@@ -41,7 +41,8 @@ pub extern "C" fn bsm_write_subject32_ex(
             port,
         },
         address,
-    ))
+    )
+    .into()
 }
 
 #[unsafe(no_mangle)]
@@ -59,7 +60,7 @@ pub extern "C" fn bsm_write_process32_ex(
 ) -> BsmWritten
     ensures { Exported (token_draft process32_ex_token (audit ∷ effective_user ∷ effective_group ∷ real_user ∷ real_group ∷ process ∷ session ∷ port ∷ []) (an_address address.now)) dst.old dst.new result }
 {
-    flat(write_process32_ex(
+    write_process32_ex(
         dst,
         PartyEx {
             audit,
@@ -72,7 +73,8 @@ pub extern "C" fn bsm_write_process32_ex(
             port,
         },
         address,
-    ))
+    )
+    .into()
 }
 
 #[unsafe(no_mangle)]
@@ -90,7 +92,7 @@ pub extern "C" fn bsm_write_subject64_ex(
 ) -> BsmWritten
     ensures { Exported (token_draft subject64_ex_token (audit ∷ effective_user ∷ effective_group ∷ real_user ∷ real_group ∷ process ∷ session ∷ port ∷ []) (an_address address.now)) dst.old dst.new result }
 {
-    flat(write_subject64_ex(
+    write_subject64_ex(
         dst,
         PartyEx {
             audit,
@@ -103,7 +105,8 @@ pub extern "C" fn bsm_write_subject64_ex(
             port,
         },
         address,
-    ))
+    )
+    .into()
 }
 
 #[unsafe(no_mangle)]
@@ -121,7 +124,7 @@ pub extern "C" fn bsm_write_process64_ex(
 ) -> BsmWritten
     ensures { Exported (token_draft process64_ex_token (audit ∷ effective_user ∷ effective_group ∷ real_user ∷ real_group ∷ process ∷ session ∷ port ∷ []) (an_address address.now)) dst.old dst.new result }
 {
-    flat(write_process64_ex(
+    write_process64_ex(
         dst,
         PartyEx {
             audit,
@@ -134,12 +137,13 @@ pub extern "C" fn bsm_write_process64_ex(
             port,
         },
         address,
-    ))
+    )
+    .into()
 }
 
 #[unsafe(no_mangle)]
 pub extern "C" fn bsm_write_in_addr_ex(dst: &mut [u8], address: &[u8]) -> BsmWritten
     ensures { Exported (token_draft in_addr_ex_token [] (an_address address.now)) dst.old dst.new result }
 {
-    flat(write_in_addr_ex(dst, address))
+    write_in_addr_ex(dst, address).into()
 }

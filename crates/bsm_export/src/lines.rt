@@ -10,7 +10,7 @@ ghost use Rattle.bsm_export.specs.Items.{state_at};
 ghost use Rattle.bsm_export.specs.Written.{Exported};
 ghost use Rattle.bsm_export.specs.Lines.{ItemLined, last_draft, cursor_from, flat_listing, PartListed};
 
-use crate::answer::{BsmWritten, answer_of, flat, no_refusal};
+use crate::answer::{BsmWritten, answer_of, no_refusal};
 use bsm_item::read::item_at;
 use bsm_item::state::State;
 use bsm_listing::line::{first_line, item_line, last_line};
@@ -33,7 +33,7 @@ pub struct BsmListing {
 pub extern "C" fn bsm_first_line(dst: &mut [u8]) -> BsmWritten
     ensures { Exported (code first_line) dst.old dst.new result }
 {
-    flat(first_line(dst))
+    first_line(dst).into()
 }
 
 // The line of the item at a place; where there is none, its answer and no line.
@@ -42,7 +42,7 @@ pub extern "C" fn bsm_item_line(dst: &mut [u8], trail: &[u8], place: usize) -> B
     ensures { ItemLined trail.now place dst.old dst.new result }
 {
     match item_at(trail, place) {
-        Ok(Some(item)) => flat(item_line(dst, place, item)),
+        Ok(Some(item)) => item_line(dst, place, item).into(),
         Ok(None) => answer_of(0, no_refusal()),
         Err(f) => answer_of(0, f),
     }
@@ -64,7 +64,7 @@ pub extern "C" fn bsm_last_line(
         records,
         files,
     };
-    flat(last_line(dst, state.run(trail)))
+    last_line(dst, state.run(trail)).into()
 }
 
 // The cursor of a stage.

@@ -6,7 +6,7 @@ ghost use Rattle.bsm_token.specs.Names.{process32_token, process64_token, subjec
 ghost use Rattle.bsm_draft.specs.Given.{nothing, token_draft};
 ghost use Rattle.bsm_export.specs.Written.{Exported};
 
-use crate::answer::{BsmWritten, flat};
+use crate::answer::BsmWritten;
 use bsm_token::kind::Party;
 use bsm_write::simple::{write_process32, write_process64, write_subject32, write_subject64};
 
@@ -25,7 +25,7 @@ pub extern "C" fn bsm_write_subject32(
 ) -> BsmWritten
     ensures { Exported (token_draft subject32_token (audit ∷ effective_user ∷ effective_group ∷ real_user ∷ real_group ∷ process ∷ session ∷ port ∷ address ∷ []) nothing) dst.old dst.new result }
 {
-    flat(write_subject32(
+    write_subject32(
         dst,
         Party {
             audit,
@@ -38,7 +38,8 @@ pub extern "C" fn bsm_write_subject32(
             port,
             address,
         },
-    ))
+    )
+    .into()
 }
 
 #[unsafe(no_mangle)]
@@ -56,7 +57,7 @@ pub extern "C" fn bsm_write_process32(
 ) -> BsmWritten
     ensures { Exported (token_draft process32_token (audit ∷ effective_user ∷ effective_group ∷ real_user ∷ real_group ∷ process ∷ session ∷ port ∷ address ∷ []) nothing) dst.old dst.new result }
 {
-    flat(write_process32(
+    write_process32(
         dst,
         Party {
             audit,
@@ -69,7 +70,8 @@ pub extern "C" fn bsm_write_process32(
             port,
             address,
         },
-    ))
+    )
+    .into()
 }
 
 #[unsafe(no_mangle)]
@@ -87,7 +89,7 @@ pub extern "C" fn bsm_write_subject64(
 ) -> BsmWritten
     ensures { Exported (token_draft subject64_token (audit ∷ effective_user ∷ effective_group ∷ real_user ∷ real_group ∷ process ∷ session ∷ port ∷ address ∷ []) nothing) dst.old dst.new result }
 {
-    flat(write_subject64(
+    write_subject64(
         dst,
         Party {
             audit,
@@ -100,7 +102,8 @@ pub extern "C" fn bsm_write_subject64(
             port,
             address,
         },
-    ))
+    )
+    .into()
 }
 
 #[unsafe(no_mangle)]
@@ -118,7 +121,7 @@ pub extern "C" fn bsm_write_process64(
 ) -> BsmWritten
     ensures { Exported (token_draft process64_token (audit ∷ effective_user ∷ effective_group ∷ real_user ∷ real_group ∷ process ∷ session ∷ port ∷ address ∷ []) nothing) dst.old dst.new result }
 {
-    flat(write_process64(
+    write_process64(
         dst,
         Party {
             audit,
@@ -131,5 +134,6 @@ pub extern "C" fn bsm_write_process64(
             port,
             address,
         },
-    ))
+    )
+    .into()
 }

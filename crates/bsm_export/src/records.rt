@@ -4,7 +4,7 @@ ghost use Rattle.bsm_token.specs.Names.{header32_token, header64_token, header32
 ghost use Rattle.bsm_draft.specs.Items.{file_draft, record_draft};
 ghost use Rattle.bsm_export.specs.Written.{Exported};
 
-use crate::answer::{BsmWritten, flat};
+use crate::answer::BsmWritten;
 use bsm_draft::header::HeaderFields;
 use bsm_write::file::write_file;
 use bsm_write::record::{write_record32, write_record32_ex, write_record64, write_record64_ex};
@@ -18,7 +18,7 @@ pub extern "C" fn bsm_write_file(
 ) -> BsmWritten
     ensures { Exported (file_draft (seconds ∷ microseconds ∷ []) name.now) dst.old dst.new result }
 {
-    flat(write_file(dst, seconds, microseconds, name))
+    write_file(dst, seconds, microseconds, name).into()
 }
 
 #[unsafe(no_mangle)]
@@ -33,7 +33,7 @@ pub extern "C" fn bsm_write_record32(
 ) -> BsmWritten
     ensures { Exported (record_draft (record { number = header32_token; values = version ∷ event ∷ modifier ∷ seconds ∷ nanoseconds ∷ []; address = [] }) body.now) dst.old dst.new result }
 {
-    flat(write_record32(
+    write_record32(
         dst,
         HeaderFields {
             version,
@@ -43,7 +43,8 @@ pub extern "C" fn bsm_write_record32(
             nanoseconds,
         },
         body,
-    ))
+    )
+    .into()
 }
 
 #[unsafe(no_mangle)]
@@ -58,7 +59,7 @@ pub extern "C" fn bsm_write_record64(
 ) -> BsmWritten
     ensures { Exported (record_draft (record { number = header64_token; values = version ∷ event ∷ modifier ∷ seconds ∷ nanoseconds ∷ []; address = [] }) body.now) dst.old dst.new result }
 {
-    flat(write_record64(
+    write_record64(
         dst,
         HeaderFields {
             version,
@@ -68,7 +69,8 @@ pub extern "C" fn bsm_write_record64(
             nanoseconds,
         },
         body,
-    ))
+    )
+    .into()
 }
 
 #[unsafe(no_mangle)]
@@ -84,7 +86,7 @@ pub extern "C" fn bsm_write_record32_ex(
 ) -> BsmWritten
     ensures { Exported (record_draft (record { number = header32_ex_token; values = version ∷ event ∷ modifier ∷ seconds ∷ nanoseconds ∷ []; address = address.now }) body.now) dst.old dst.new result }
 {
-    flat(write_record32_ex(
+    write_record32_ex(
         dst,
         HeaderFields {
             version,
@@ -95,7 +97,8 @@ pub extern "C" fn bsm_write_record32_ex(
         },
         address,
         body,
-    ))
+    )
+    .into()
 }
 
 #[unsafe(no_mangle)]
@@ -111,7 +114,7 @@ pub extern "C" fn bsm_write_record64_ex(
 ) -> BsmWritten
     ensures { Exported (record_draft (record { number = header64_ex_token; values = version ∷ event ∷ modifier ∷ seconds ∷ nanoseconds ∷ []; address = address.now }) body.now) dst.old dst.new result }
 {
-    flat(write_record64_ex(
+    write_record64_ex(
         dst,
         HeaderFields {
             version,
@@ -122,5 +125,6 @@ pub extern "C" fn bsm_write_record64_ex(
         },
         address,
         body,
-    ))
+    )
+    .into()
 }

@@ -4,7 +4,7 @@ ghost use Rattle.bsm_token.specs.Names.{exit_token, in_addr_token, ip_token, ipc
 ghost use Rattle.bsm_draft.specs.Given.{nothing, token_draft};
 ghost use Rattle.bsm_export.specs.Written.{Exported};
 
-use crate::answer::{BsmWritten, flat};
+use crate::answer::BsmWritten;
 use bsm_token::kind::{IpHeader, Permissions};
 use bsm_write::simple::{
     write_exit, write_in_addr, write_ip, write_ipc_perm, write_iport, write_return32,
@@ -15,42 +15,42 @@ use bsm_write::simple::{
 pub extern "C" fn bsm_write_return32(dst: &mut [u8], error: u8, value: u32) -> BsmWritten
     ensures { Exported (token_draft return32_token (error ∷ value ∷ []) nothing) dst.old dst.new result }
 {
-    flat(write_return32(dst, error, value))
+    write_return32(dst, error, value).into()
 }
 
 #[unsafe(no_mangle)]
 pub extern "C" fn bsm_write_return64(dst: &mut [u8], error: u8, value: u64) -> BsmWritten
     ensures { Exported (token_draft return64_token (error ∷ value ∷ []) nothing) dst.old dst.new result }
 {
-    flat(write_return64(dst, error, value))
+    write_return64(dst, error, value).into()
 }
 
 #[unsafe(no_mangle)]
 pub extern "C" fn bsm_write_in_addr(dst: &mut [u8], address: u32) -> BsmWritten
     ensures { Exported (token_draft in_addr_token (address ∷ []) nothing) dst.old dst.new result }
 {
-    flat(write_in_addr(dst, address))
+    write_in_addr(dst, address).into()
 }
 
 #[unsafe(no_mangle)]
 pub extern "C" fn bsm_write_iport(dst: &mut [u8], port: u16) -> BsmWritten
     ensures { Exported (token_draft iport_token (port ∷ []) nothing) dst.old dst.new result }
 {
-    flat(write_iport(dst, port))
+    write_iport(dst, port).into()
 }
 
 #[unsafe(no_mangle)]
 pub extern "C" fn bsm_write_seq(dst: &mut [u8], sequence: u32) -> BsmWritten
     ensures { Exported (token_draft seq_token (sequence ∷ []) nothing) dst.old dst.new result }
 {
-    flat(write_seq(dst, sequence))
+    write_seq(dst, sequence).into()
 }
 
 #[unsafe(no_mangle)]
 pub extern "C" fn bsm_write_exit(dst: &mut [u8], status: u32, value: u32) -> BsmWritten
     ensures { Exported (token_draft exit_token (status ∷ value ∷ []) nothing) dst.old dst.new result }
 {
-    flat(write_exit(dst, status, value))
+    write_exit(dst, status, value).into()
 }
 
 #[unsafe(no_mangle)]
@@ -69,7 +69,7 @@ pub extern "C" fn bsm_write_ip(
 ) -> BsmWritten
     ensures { Exported (token_draft ip_token (version ∷ service ∷ length ∷ id ∷ offset ∷ ttl ∷ protocol ∷ checksum ∷ source ∷ destination ∷ []) nothing) dst.old dst.new result }
 {
-    flat(write_ip(
+    write_ip(
         dst,
         IpHeader {
             version,
@@ -83,7 +83,8 @@ pub extern "C" fn bsm_write_ip(
             source,
             destination,
         },
-    ))
+    )
+    .into()
 }
 
 #[unsafe(no_mangle)]
@@ -99,7 +100,7 @@ pub extern "C" fn bsm_write_ipc_perm(
 ) -> BsmWritten
     ensures { Exported (token_draft ipc_perm_token (user ∷ group ∷ creator_user ∷ creator_group ∷ mode ∷ sequence ∷ key ∷ []) nothing) dst.old dst.new result }
 {
-    flat(write_ipc_perm(
+    write_ipc_perm(
         dst,
         Permissions {
             user,
@@ -110,5 +111,6 @@ pub extern "C" fn bsm_write_ipc_perm(
             sequence,
             key,
         },
-    ))
+    )
+    .into()
 }

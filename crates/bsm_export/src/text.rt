@@ -4,21 +4,21 @@ ghost use Rattle.bsm_token.specs.Names.{arg32_token, arg64_token, path_token, te
 ghost use Rattle.bsm_draft.specs.Given.{a_text, token_draft};
 ghost use Rattle.bsm_export.specs.Written.{Exported};
 
-use crate::answer::{BsmWritten, flat};
+use crate::answer::BsmWritten;
 use bsm_write::text::{write_arg32, write_arg64, write_path, write_text};
 
 #[unsafe(no_mangle)]
 pub extern "C" fn bsm_write_path(dst: &mut [u8], text: &[u8]) -> BsmWritten
     ensures { Exported (token_draft path_token [] (a_text text.now)) dst.old dst.new result }
 {
-    flat(write_path(dst, text))
+    write_path(dst, text).into()
 }
 
 #[unsafe(no_mangle)]
 pub extern "C" fn bsm_write_text(dst: &mut [u8], text: &[u8]) -> BsmWritten
     ensures { Exported (token_draft text_token [] (a_text text.now)) dst.old dst.new result }
 {
-    flat(write_text(dst, text))
+    write_text(dst, text).into()
 }
 
 #[unsafe(no_mangle)]
@@ -30,7 +30,7 @@ pub extern "C" fn bsm_write_arg32(
 ) -> BsmWritten
     ensures { Exported (token_draft arg32_token (argument ∷ value ∷ []) (a_text text.now)) dst.old dst.new result }
 {
-    flat(write_arg32(dst, argument, value, text))
+    write_arg32(dst, argument, value, text).into()
 }
 
 #[unsafe(no_mangle)]
@@ -42,5 +42,5 @@ pub extern "C" fn bsm_write_arg64(
 ) -> BsmWritten
     ensures { Exported (token_draft arg64_token (argument ∷ value ∷ []) (a_text text.now)) dst.old dst.new result }
 {
-    flat(write_arg64(dst, argument, value, text))
+    write_arg64(dst, argument, value, text).into()
 }
