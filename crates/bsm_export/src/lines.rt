@@ -11,6 +11,7 @@ ghost use Rattle.bsm_export.specs.Written.{Exported};
 ghost use Rattle.bsm_export.specs.Lines.{ItemLined, last_draft, cursor_from, flat_listing, PartListed};
 
 use crate::answer::{BsmWritten, answer_of, no_refusal};
+use crate::state::run_from;
 use bsm_item::read::item_at;
 use bsm_item::state::State;
 use bsm_listing::line::{first_line, item_line, last_line};
@@ -59,12 +60,7 @@ pub extern "C" fn bsm_last_line(
 ) -> BsmWritten
     ensures { Exported (last_draft (stop_of (plain trail.now (state_at place records files)))) dst.old dst.new result }
 {
-    let state = State {
-        place,
-        records,
-        files,
-    };
-    last_line(dst, state.run(trail)).into()
+    last_line(dst, run_from(trail, place, records, files)).into()
 }
 
 // The cursor of a stage.

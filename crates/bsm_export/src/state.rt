@@ -84,15 +84,22 @@ pub extern "C" fn bsm_next(trail: &[u8], place: usize, records: usize, files: us
     }
 }
 
-// Reads items from a state on until none stands there.
-#[unsafe(no_mangle)]
-pub extern "C" fn bsm_run(trail: &[u8], place: usize, records: usize, files: usize) -> BsmOutcome
-    ensures { result ≡ flat_outcome (stop_of (plain trail.now (state_at place records files))) }
+// The run from a state.
+pub(crate) fn run_from(trail: &[u8], place: usize, records: usize, files: usize) -> Run
+    ensures { run_meant result ≡ stop_of (plain trail.now (state_at place records files)) }
 {
     let state = State {
         place,
         records,
         files,
     };
-    run_numbers(state.run(trail))
+    state.run(trail)
+}
+
+// Reads items from a state on until none stands there.
+#[unsafe(no_mangle)]
+pub extern "C" fn bsm_run(trail: &[u8], place: usize, records: usize, files: usize) -> BsmOutcome
+    ensures { result ≡ flat_outcome (stop_of (plain trail.now (state_at place records files))) }
+{
+    run_numbers(run_from(trail, place, records, files))
 }
