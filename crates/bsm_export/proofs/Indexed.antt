@@ -5,7 +5,6 @@ use mathlib.Core.List.{List}
 use Prim.Native.Nat.{ℕ}
 use Rattle.bsm_token.specs.declared.refusal.Refusal.{Refusal}
 use Rattle.bsm_item.specs.Meaning.{item_meant, part_meant, address_meant, read_meant, run_meant, ItemRead}
-use Rattle.bsm_item.specs.declared.item.Item.{Item}
 use Rattle.bsm_index.specs.Fill.{Fill}
 use Rattle.bsm_index.specs.Meaning.{fill_meant, FoundAt, find_meant}
 use Rattle.bsm_index.specs.declared.fill.Filled.{Filled}

@@ -5,12 +5,12 @@ use mathlib.Core.List.{List}
 use Prim.Native.Nat.{ℕ}
 use Rattle.bsm_token.specs.declared.refusal.Refusal.{Refusal}
 use Rattle.bsm_item.specs.Reading.{Outcome}
-use Rattle.bsm_item.specs.Meaning.{item_meant, part_meant, address_meant, read_meant, state_meant, StepAnswer, step_meant, ending_meant, run_meant, Step}
+use Rattle.bsm_item.specs.Meaning.{item_meant, part_meant, address_meant, state_meant, StepAnswer, step_meant, ending_meant, run_meant, Step}
 use Rattle.bsm_item.specs.declared.item.Item.{Item as Found}
 use Rattle.bsm_item.specs.declared.state.State.{State as Place}
 use Rattle.bsm_item.specs.declared.state.Run.{Run}
 use Rattle.bsm_export.proofs.ItemNumbers.{found_flat, end_flat, refused_flat}
-use Rattle.bsm_export.specs.Items.{no_item, flat_found, flat_item, step_with, outcome_with, flat_step, stopped_by, flat_outcome}
+use Rattle.bsm_export.specs.Items.{no_item, flat_found, step_with, outcome_with, flat_step, stopped_by, flat_outcome}
 use Rattle.bsm_export.specs.declared.item.BsmItem.{BsmItem}
 use Rattle.bsm_export.specs.declared.state.BsmStep.{BsmStep}
 use Rattle.bsm_export.specs.declared.state.BsmOutcome.{BsmOutcome}
