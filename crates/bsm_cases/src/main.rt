@@ -138,6 +138,7 @@ impl<'a> Display for Text<'a> {
     }
 }
 
+// As in bsm_written, with which this program shares no crate of its own.
 #[derive(Clone, Copy)]
 struct Refused(Refusal);
 

@@ -8,7 +8,11 @@ ghost use Rattle.bsm_export.specs.Index.{FillTold, found_numbers};
 
 use crate::answer::no_refusal;
 use crate::item::{BsmItem, no_item};
+<<<<<<< HEAD
 use crate::state::BsmOutcome;
+=======
+use crate::state::{BsmOutcome, run_numbers};
+>>>>>>> 04ee81220b7f19fb745d75cf5a3f558373df81f8
 use bsm_index::fill::fill;
 use bsm_index::find::find_record;
 use bsm_item::state::State;

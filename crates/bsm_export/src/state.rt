@@ -86,15 +86,31 @@ pub extern "C" fn bsm_next(trail: &[u8], place: usize, records: usize, files: us
     }
 }
 
-// Reads items from a state on until none stands there.
-#[unsafe(no_mangle)]
-pub extern "C" fn bsm_run(trail: &[u8], place: usize, records: usize, files: usize) -> BsmOutcome
-    ensures { result ≡ flat_outcome (stop_of (plain trail.now (state_at place records files))) }
+// The run from a state.
+pub(crate) fn run_from(trail: &[u8], place: usize, records: usize, files: usize) -> Run
+    ensures { run_meant result ≡ stop_of (plain trail.now (state_at place records files)) }
 {
     let state = State {
         place,
         records,
         files,
     };
+    state.run(trail)
+}
+
+// Reads items from a state on until none stands there.
+#[unsafe(no_mangle)]
+pub extern "C" fn bsm_run(trail: &[u8], place: usize, records: usize, files: usize) -> BsmOutcome
+    ensures { result ≡ flat_outcome (stop_of (plain trail.now (state_at place records files))) }
+{
+<<<<<<< HEAD
+    let state = State {
+        place,
+        records,
+        files,
+    };
     state.run(trail).into()
+=======
+    run_numbers(run_from(trail, place, records, files))
+>>>>>>> 04ee81220b7f19fb745d75cf5a3f558373df81f8
 }

@@ -151,7 +151,7 @@ fn write_expanded(number: u8, dst: &mut [u8]) -> Result<usize, Refusal> {
     }
 }
 
-// Writes a token with this number.
+// Writes a token with this number: a match, since each kind has a writer of its own that takes other values.
 fn write_kind(number: u8, dst: &mut [u8]) -> Result<usize, Refusal> {
     match number {
         kind::PATH => write_path(dst, b"/etc/passwd"),
