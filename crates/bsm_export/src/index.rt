@@ -8,11 +8,7 @@ ghost use Rattle.bsm_export.specs.Index.{FillTold, found_numbers};
 
 use crate::answer::no_refusal;
 use crate::item::{BsmItem, no_item};
-<<<<<<< HEAD
-use crate::state::BsmOutcome;
-=======
 use crate::state::{BsmOutcome, run_numbers};
->>>>>>> 04ee81220b7f19fb745d75cf5a3f558373df81f8
 use bsm_index::fill::fill;
 use bsm_index::find::find_record;
 use bsm_item::state::State;
@@ -51,7 +47,7 @@ pub extern "C" fn bsm_fill_index(
     };
     let filled = fill(trail, state, table);
     BsmFilled {
-        run: filled.run.into(),
+        run: run_numbers(filled.run),
         count: filled.count as u64,
     }
 }

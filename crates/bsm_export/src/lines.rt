@@ -11,10 +11,7 @@ ghost use Rattle.bsm_export.specs.Written.{Exported};
 ghost use Rattle.bsm_export.specs.Lines.{ItemLined, last_draft, cursor_from, flat_listing, PartListed};
 
 use crate::answer::{BsmWritten, answer_of, no_refusal};
-<<<<<<< HEAD
-=======
 use crate::state::run_from;
->>>>>>> 04ee81220b7f19fb745d75cf5a3f558373df81f8
 use bsm_item::read::item_at;
 use bsm_item::state::State;
 use bsm_listing::line::{first_line, item_line, last_line};
@@ -63,16 +60,7 @@ pub extern "C" fn bsm_last_line(
 ) -> BsmWritten
     ensures { Exported (last_draft (stop_of (plain trail.now (state_at place records files)))) dst.old dst.new result }
 {
-<<<<<<< HEAD
-    let state = State {
-        place,
-        records,
-        files,
-    };
-    last_line(dst, state.run(trail)).into()
-=======
     last_line(dst, run_from(trail, place, records, files)).into()
->>>>>>> 04ee81220b7f19fb745d75cf5a3f558373df81f8
 }
 
 // The cursor of a stage.

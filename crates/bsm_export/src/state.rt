@@ -56,16 +56,14 @@ fn outcome(last: State, f: Refusal) -> BsmOutcome
 }
 
 // A run as numbers.
-impl From<Run> for BsmOutcome {
-    ghost from_gives = { λ run r. r ≡ flat_outcome (run_meant run) };
-
-    fn from(run: Run) -> BsmOutcome {
-        let last = run.state;
-        let ending = run.ending;
-        match ending {
-            Ok(()) => outcome(last, no_refusal()),
-            Err(f) => outcome(last, f),
-        }
+pub(crate) fn run_numbers(run: Run) -> BsmOutcome
+    ensures { result ≡ flat_outcome (run_meant run) }
+{
+    let last = run.state;
+    let ending = run.ending;
+    match ending {
+        Ok(()) => outcome(last, no_refusal()),
+        Err(f) => outcome(last, f),
     }
 }
 
@@ -103,14 +101,5 @@ pub(crate) fn run_from(trail: &[u8], place: usize, records: usize, files: usize)
 pub extern "C" fn bsm_run(trail: &[u8], place: usize, records: usize, files: usize) -> BsmOutcome
     ensures { result ≡ flat_outcome (stop_of (plain trail.now (state_at place records files))) }
 {
-<<<<<<< HEAD
-    let state = State {
-        place,
-        records,
-        files,
-    };
-    state.run(trail).into()
-=======
     run_numbers(run_from(trail, place, records, files))
->>>>>>> 04ee81220b7f19fb745d75cf5a3f558373df81f8
 }
