@@ -55,7 +55,8 @@ fn outcome(last: State, f: Refusal) -> BsmOutcome
     }
 }
 
-// A run as numbers.
+// A run as numbers. A function and no `From`: with it the compiler ordered the library's functions in another way, and a call stood inside the
+// walk over tokens.
 pub(crate) fn run_numbers(run: Run) -> BsmOutcome
     ensures { result ≡ flat_outcome (run_meant run) }
 {
