@@ -17,6 +17,7 @@ pub struct BsmBefore {
     pub place: u64,
 }
 
+// As `found` of the index, another struct for C.
 fn before(item: BsmItem, place: usize) -> BsmBefore
     ensures { result ≡ record { item = item; place = place } }
 {

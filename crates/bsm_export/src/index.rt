@@ -52,6 +52,7 @@ pub extern "C" fn bsm_fill_index(
     }
 }
 
+// A record's item and place: each struct for C is made by a function of its own.
 fn found(item: BsmItem, place: usize) -> BsmFound
     ensures { result ≡ record { item = item; place = place } }
 {

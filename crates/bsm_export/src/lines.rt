@@ -63,17 +63,15 @@ pub extern "C" fn bsm_last_line(
     last_line(dst, run_from(trail, place, records, files)).into()
 }
 
-// The cursor of a stage.
+// The cursor of a stage: no `From`, since a state goes with it.
 fn cursor_of(stage: u64, state: State) -> Cursor
     ensures { cursor_meant result ≡ cursor_from stage (state_meant state) }
 {
-    if stage == 0 {
-        return Cursor::First;
+    match stage {
+        0 => Cursor::First,
+        1 => Cursor::At(state),
+        _ => Cursor::Done,
     }
-    if stage == 1 {
-        return Cursor::At(state);
-    }
-    Cursor::Done
 }
 
 fn listing(stage: u64, state: State, written: usize) -> BsmListing
